@@ -1,0 +1,4 @@
+-- The numbers of every enum.
+pub mod Thread
+pub mod Sync
+pub mod Object

@@ -1,0 +1,2 @@
+-- The definitions that the contracts of `units` cite.
+pub mod Ticks
