@@ -3,3 +3,4 @@ pub mod Laws
 pub mod Rows
 pub mod Back
 pub mod Same
+pub mod Fit

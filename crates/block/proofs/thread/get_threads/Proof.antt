@@ -1,0 +1,98 @@
+-- The first i records are read; a turn reads one more.
+use Prim.Native.Nat.{_≤_, _<_, _-_}
+use mathlib.Core.Path.{_≡_, _∙_, sym}
+use lib.ListN.{length, take}
+use lib.Seq.{take-all}
+use native.Mathlib.Nat.{add-sub-cancel-left}
+use native.Mathlib.Omega.{arith}
+use borrow.Author.Needs.{needs}
+use Rattle.codec.specs.Layout.{decAll}
+use Rattle.codec.proofs.Rows.{fill-more}
+use Rattle.block.specs.Thread.{decThread}
+use Rattle.block.proofs.thread.get_threads.Statement.{statement}
+use Rattle.block.proofs.thread.get_threads.Tie as tie
+
+abbrev Inv-loop : tie.InvT-loop
+Inv-loop s at l₀ i₀ l i = (i ≤ 32) × (length l ≡ 32) × (take i l ≡ decAll decThread 160 i s at)
+
+abbrev μ-loop : tie.MeasureT-loop
+μ-loop s at l₀ i₀ l i = 32 - i
+
+no-thread-requires : tie.Need-no-thread-requires Inv-loop μ-loop
+no-thread-requires c κs = search needs
+
+loop-holds : tie.Need-loop-holds Inv-loop μ-loop
+unfolding decAll
+loop-holds c = search needs
+
+mul-from : tie.Need-mul-from Inv-loop μ-loop
+mul-from c = search needs
+
+add-from : tie.Need-add-from Inv-loop μ-loop
+add-from c = search needs
+
+add-get-thread : tie.Need-add-get-thread Inv-loop μ-loop
+add-get-thread c = search needs
+
+sub-get-thread : tie.Need-sub-get-thread Inv-loop μ-loop
+sub-get-thread c = search needs
+
+part-get-thread-start : tie.Need-part-get-thread-start Inv-loop μ-loop
+part-get-thread-start c = search needs
+
+part-get-thread-end : tie.Need-part-get-thread-end Inv-loop μ-loop
+part-get-thread-end c = search needs
+
+get-thread-requires : tie.Need-get-thread-requires Inv-loop μ-loop
+get-thread-requires c κs = search needs
+
+mul-l : tie.Need-mul-l Inv-loop μ-loop
+mul-l c = search needs
+
+array-set-from-l : tie.Need-array-set-from-l Inv-loop μ-loop
+array-set-from-l c = search needs
+
+add-i : tie.Need-add-i Inv-loop μ-loop
+add-i c = search needs
+
+loop-less : tie.Need-loop-less Inv-loop μ-loop
+loop-less c = search needs
+
+loop-again : tie.Need-loop-again Inv-loop μ-loop
+loop-again c =
+    let a = c .before .before .before .before .before .before .args in
+    let l = c .before .before .before .loop in
+    let h : l .i < length (l .l) = omega arith in (
+      search needs,
+      search needs,
+      rw (c .get-thread .ensures, add-sub-cancel-left) (fill-more decThread 160 (l .i) (a .s .now) (a .at) (l .l) h (l .inv .2)),
+    )
+
+returns : tie.Need-returns Inv-loop μ-loop
+returns c =
+    let l = c .before .loop in
+    let e : l .i ≡ 32 = omega arith in
+    let f : length (l .l) ≤ 32 = omega arith in
+    sym (take-all 32 (l .l) f) ∙ (rw e at (l .inv .2))
+
+pub get-threads-spec : {M : Type 1} → statement M
+get-threads-spec =
+    tie.close
+    (tie.spec
+    Inv-loop
+    μ-loop
+    no-thread-requires
+    loop-holds
+    mul-from
+    add-from
+    add-get-thread
+    sub-get-thread
+    part-get-thread-start
+    part-get-thread-end
+    get-thread-requires
+    mul-l
+    array-set-from-l
+    add-i
+    loop-less
+    loop-again
+    returns)

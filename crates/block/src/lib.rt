@@ -1,0 +1,148 @@
+// The state in a block of 16,384 bytes, as docs/STATE.md lays it out.
+pub mod context;
+pub mod slot;
+pub mod table;
+pub mod thread;
+
+use codec::Four;
+use types::kernel::Kernel;
+use types::object::HandleTable;
+use types::object::ObjectStore;
+use types::thread::ThreadOption;
+use units::Handle;
+use units::ObjectId;
+ghost use mathlib.Core.Path.{_≡_};
+ghost use Prim.Native.Nat.{ℕ, _+_, _≤_};
+ghost use lib.ListN.{length};
+ghost use Rattle.block.specs.Block.{headWords, headAt, encHead, encBlock, decBlock};
+
+// The sixteen words of the head.
+pub struct Head {
+    pub a: Four,
+    pub b: Four,
+    pub c: Four,
+    pub d: Four,
+}
+
+fn head_words(k: Kernel) -> Head
+    ensures { λ r. ⌜ r ≡ headWords k ⌝ }
+{
+    let current = k.current_thread;
+    let o = k.objects;
+    let h = k.handles;
+    let next = h.next;
+    let process = o.process_object;
+    Head {
+        a: Four(
+            k.status_word,
+            k.thread_count,
+            types::thread::thread_flag(current),
+            types::thread::thread_value(current),
+        ),
+        b: Four(
+            k.next_tls_slot,
+            k.next_guest_id,
+            k.all_blocked as u32,
+            k.relief as u32,
+        ),
+        c: Four(o.free, o.free_waiter, h.count, next.0),
+        d: Four(process.0, 0, 0, 0),
+    }
+}
+
+fn put_head(b: &mut [u8], h: Head)
+    requires { ⌜ length (now b) ≡ 128 ⌝ }
+    ensures { λ _. ⌜ now (b .exit) ≡ encHead h ⌝ }
+{
+    let p = h.a;
+    let q = h.b;
+    let r = h.c;
+    let t = h.d;
+    codec::put_four(b, 0, p);
+    codec::put_four(b, 16, q);
+    codec::put_four(b, 32, r);
+    codec::put_four(b, 48, t);
+    codec::put_zeros(b, 64, 64);
+}
+
+// The state over all of a block.
+pub fn encode(b: &mut [u8], k: Kernel)
+    requires { ⌜ length (now b) ≡ 16384 ⌝ }
+    ensures { λ _. ⌜ now (b .exit) ≡ encBlock k ⌝ }
+{
+    put_head(&mut b[0..128], head_words(k));
+    let threads = k.threads;
+    thread::put_threads(b, 128, threads);
+    let o = k.objects;
+    let slots = o.slots;
+    slot::put_slots(b, 5248, slots);
+    let h = k.handles;
+    let entries = h.entries;
+    table::put_entries(b, 10368, entries);
+    let waiters = o.waiters;
+    table::put_waiters(b, 12416, waiters);
+    let ids = o.thread_objects;
+    table::put_ids32(b, 13184, ids);
+    codec::put_zeros(b, 13312, 3072);
+}
+
+fn get_head(b: &[u8]) -> Head
+    requires { ⌜ length (now b) ≡ 16384 ⌝ }
+    ensures { λ r. ⌜ r ≡ headAt (now (b .entry)) ⌝ }
+{
+    Head {
+        a: codec::get_four(b, 0),
+        b: codec::get_four(b, 16),
+        c: codec::get_four(b, 32),
+        d: codec::get_four(b, 48),
+    }
+}
+
+// The state in a block.
+pub fn decode(b: &[u8]) -> Kernel
+    requires { ⌜ length (now b) ≡ 16384 ⌝ }
+    ensures { λ r. ⌜ r ≡ decBlock (now (b .entry)) ⌝ }
+{
+    let threads = thread::get_threads(b, 128);
+    let slots = slot::get_slots(b, 5248);
+    let entries = table::get_entries(b, 10368);
+    let waiters = table::get_waiters(b, 12416);
+    let ids = table::get_ids32(b, 13184);
+    let head = get_head(b);
+    let p = head.a;
+    let q = head.b;
+    let r = head.c;
+    let s = head.d;
+    let current = types::thread::thread_option(p.2, p.3);
+    let objects = ObjectStore {
+        slots: slots,
+        free: r.0,
+        waiters: waiters,
+        free_waiter: r.1,
+        thread_objects: ids,
+        process_object: ObjectId(s.0),
+        full: false,
+        overflow: false,
+    };
+    let handles = HandleTable {
+        entries: entries,
+        count: r.2,
+        next: Handle(r.3),
+        full: false,
+        overflow: false,
+    };
+    Kernel {
+        status_word: p.0,
+        objects: objects,
+        handles: handles,
+        threads: threads,
+        thread_count: p.1,
+        current_thread: current,
+        next_tls_slot: q.0,
+        next_guest_id: q.1,
+        all_blocked: q.2 == 1,
+        relief: q.3 == 1,
+        full: false,
+        overflow: false,
+    }
+}

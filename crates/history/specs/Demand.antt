@@ -1,0 +1,34 @@
+-- Demand 3 of document 01: one theorem over every list of operations and every first block.
+use mathlib.Core.Path.{_≡_, ap}
+use mathlib.Core.Bool.{Bool, true, false}
+use mathlib.Core.List.{List, [], _∷_}
+use Prim.Native.Nat.{ℕ}
+use Rattle.sound.specs.Question.{sound?}
+use Rattle.host.specs.Lent.{lent, accepted?}
+use Rattle.history.specs.Step.{Op, opFreshStart, opNextEvent, step, Entry, trace}
+use Rattle.history.specs.Keeps.{Kept, fresh-keeps, nextEvent-keeps}
+
+-- at every entry, with what comes after it
+abbrev pub Always : (Entry → List Entry → Type 0) → List Entry → Type 0
+Always P [] = Unit {0}
+Always P (e ∷ es) = P e es × Always P es
+
+pub record Claim (e : Entry) (rest : List Entry) : Type 0 where
+  -- "no accepted operation, a fresh start among them, leaves a block that question 2 would turn away"
+  pub keeps : accepted? (e .after .number) ≡ true → sound? (e .after .after .block) ≡ true
+  -- after a refusal the block holds the bytes it held before
+  pub leaves : accepted? (e .after .number) ≡ false → e .after .after .block ≡ e .before
+
+claim : (op : Op) (b : List ℕ) (rest : List Entry) → Claim (record { before = b; op = op; after = step op b }) rest
+unfolding step
+claim (opFreshStart bank u word h) b rest =
+    let k = fresh-keeps word h (lent b bank [] [] []) in
+    record { keeps = k .sound; leaves = λ e. ap (λ l. l .block) (k .same e) }
+claim (opNextEvent answer u) b rest =
+    let k = nextEvent-keeps (lent b [] [] [] answer) in
+    record { keeps = k .sound; leaves = λ e. ap (λ l. l .block) (k .same e) }
+
+pub demand3 : (ops : List Op) (b : List ℕ) → Always Claim (trace ops b)
+unfolding trace
+demand3 [] b = tt
+demand3 (op ∷ ops) b = (claim op b (trace ops (step op b .after .block)), demand3 ops (step op b .after .block))

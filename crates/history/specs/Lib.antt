@@ -1,0 +1,4 @@
+-- Lists of operations.
+pub mod Step
+pub mod Keeps
+pub mod Demand

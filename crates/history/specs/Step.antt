@@ -1,0 +1,24 @@
+-- Operations one after the other: each gets the block as the last one left it.
+use mathlib.Core.List.{List, [], _∷_}
+use Prim.Native.Nat.{ℕ, _<_}
+use Rattle.codec.proofs.Back.{Bytes}
+use Rattle.host.specs.Lent.{lent, Back}
+use Rattle.host.specs.Operations.{freshStart, nextEvent}
+
+-- an operation with everything lent besides the block and every number: what C can pass, so slices are of bytes and numbers fit
+pub data Op : Type 0 where
+  opFreshStart : (bank : List ℕ) → Bytes bank → (word : ℕ) → word < 4294967296 → Op
+  opNextEvent : (answer : List ℕ) → Bytes answer → Op
+
+unfoldable pub step : Op → List ℕ → Back
+step (opFreshStart bank u word h) b = freshStart word (lent b bank [] [] [])
+step (opNextEvent answer u) b = nextEvent (lent b [] [] [] answer)
+
+pub record Entry : Type 0 where
+  pub before : List ℕ
+  pub op : Op
+  pub after : Back
+
+unfoldable pub trace : List Op → List ℕ → List Entry
+trace [] b = []
+trace (op ∷ ops) b = record { before = b; op = op; after = step op b } ∷ trace ops (step op b .after .block)

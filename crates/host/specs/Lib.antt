@@ -1,0 +1,3 @@
+-- What each exported operation does to what it is lent.
+pub mod Lent
+pub mod Operations

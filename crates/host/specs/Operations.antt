@@ -1,0 +1,43 @@
+-- The exported operations: question 1, question 2, the work, question 8.
+use mathlib.Core.Bool.{Bool, true, false}
+use mathlib.Core.List.{List, _++_}
+use Prim.Native.Nat.{ℕ}
+use lib.Dec.{eqb, ltb}
+use lib.ListN.{length, replicate}
+use Rattle.laws.specs.Logic.{pick, _and_}
+use Rattle.codec.specs.Bytes.{bytes}
+use Rattle.types.specs.declared.thread.TickOption.{TickOption}
+use Rattle.types.specs.declared.kernel.Kernel.{Kernel}
+use Rattle.types.specs.Thread.{tickFlag, tickValue}
+use Rattle.block.specs.Block.{encBlock, decBlock}
+use Rattle.sound.specs.Question.{sound?}
+use Rattle.kernel.specs.Fresh.{fresh}
+use Rattle.kernel.specs.NextEvent as kernel
+use Rattle.host.specs.Lent.{Lent, lent, withAnswer, Back, back}
+
+-- question 8 of an operation that changes nothing: the next handle is at most 0xFFFF8000
+unfoldable pub outOfHandles? : Kernel → Bool
+outOfHandles? k = ltb 0xFFFF8000 (k .handles .next .0)
+
+-- an operation that only looks: the answer slice gets what it finds, and all else stays
+unfoldable pub inspect : Bool → (Kernel → List ℕ) → Lent → Back
+inspect lengths look l =
+    pick lengths
+    (pick (sound? (l .block))
+    (pick (outOfHandles? (decBlock (l .block))) (back 8 l) (back 0 (withAnswer l (look (decBlock (l .block))))))
+    (back 2 l))
+    (back 1 l)
+
+-- a fresh start needs only question 1; it zeroes the bank and leaves the processor and the window
+unfoldable pub freshStart : ℕ → Lent → Back
+freshStart w l =
+    pick (eqb (length (l .block)) 16384 and eqb (length (l .bank)) 6656)
+    (back 0 (lent (encBlock (fresh w)) (replicate 6656 0) (l .processor) (l .window) (l .answer)))
+    (back 1 l)
+
+-- 1 and the tick, or 0 and 0
+unfoldable pub tickBytes : TickOption → List ℕ
+tickBytes at = (bytes 4 (tickFlag at) ++ bytes 4 0) ++ bytes 8 (tickValue at)
+
+unfoldable pub nextEvent : Lent → Back
+nextEvent l = inspect (eqb (length (l .block)) 16384 and eqb (length (l .answer)) 16) (λ k. tickBytes (kernel.nextEvent k)) l

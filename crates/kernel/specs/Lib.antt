@@ -1,0 +1,4 @@
+-- The definitions that the contracts of `kernel` cite.
+pub mod Fresh
+pub mod NextEvent
+pub mod Marks

@@ -1,0 +1,24 @@
+use borrow.Author.Tests.{eq-eqb, ne-eqb, le-leb, lt-leb}
+use Rattle.laws.specs.Logic.{_and_, _or_}
+use Rattle.question.specs.LinearObjects.{keptThread?}
+use borrow.Author.Needs.{needs}
+use Rattle.question.proofs.objects.kept_thread.Statement.{statement}
+use Rattle.question.proofs.objects.kept_thread.Tie as tie
+
+returns : tie.Need-returns
+unfolding keptThread? _or_
+returns c = rw (eq-eqb _ _ (c .if1 .taken))
+
+returns-2 : tie.Need-returns-2
+unfolding keptThread? _or_ _and_
+returns-2 c = rw (ne-eqb _ _ (c .before .if1 .left), lt-leb _ _ (c .if2 .taken))
+
+is-thread-requires : tie.Need-is-thread-requires
+is-thread-requires c κs = search needs
+
+returns-3 : tie.Need-returns-3
+unfolding keptThread? _or_ _and_
+returns-3 c = rw (ne-eqb _ _ (c .before .before .if1 .left), le-leb _ _ (c .before .if2 .left)) (c .is-thread .ensures)
+
+pub kept-thread-spec : {M : Type 1} → statement M
+kept-thread-spec = tie.close (tie.spec returns returns-2 is-thread-requires returns-3)

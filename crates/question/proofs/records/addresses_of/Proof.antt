@@ -1,0 +1,71 @@
+use mathlib.Core.Path.{_≡_, refl}
+use Prim.Native.Nat.{_-_, _≤_, _<_}
+use native.Mathlib.Omega.{arith}
+use lib.ListN.{length, take}
+use Rattle.types.specs.declared.object.Waiter.{Waiter}
+use Rattle.sound.specs.View.{waiterAddresses}
+use Rattle.question.specs.ObjectSteps.{map-more, map-done}
+use borrow.Author.Needs.{needs}
+use Rattle.question.proofs.records.addresses_of.Statement.{statement}
+use Rattle.question.proofs.records.addresses_of.Tie as tie
+
+abbrev Inv-loop : tie.InvT-loop
+Inv-loop l r₀ i₀ r i = (i ≤ 64) × ((length r ≡ 64) × (take i r ≡ waiterAddresses (take i l)))
+
+abbrev μ-loop : tie.MeasureT-loop
+μ-loop l r₀ i₀ r i = 64 - i
+
+loop-holds : tie.Need-loop-holds Inv-loop μ-loop
+loop-holds c = (search needs, (search needs, refl))
+
+mul-w : tie.Need-mul-w Inv-loop μ-loop
+mul-w c = search needs
+
+array-copy-out-w : tie.Need-array-copy-out-w Inv-loop μ-loop
+array-copy-out-w c = search needs
+
+mul-r : tie.Need-mul-r Inv-loop μ-loop
+mul-r c = search needs
+
+array-write-r : tie.Need-array-write-r Inv-loop μ-loop
+array-write-r c = search needs
+
+add-i : tie.Need-add-i Inv-loop μ-loop
+add-i c = search needs
+
+loop-less : tie.Need-loop-less Inv-loop μ-loop
+loop-less c = search needs
+
+loop-again : tie.Need-loop-again Inv-loop μ-loop
+loop-again c =
+    let l = c .before .before .loop in
+    let s = c .before .before .before in
+    let n : length (s .args .t1) ≡ 64 = omega (arith, s .good) in
+    let h : l .i < length (s .args .t1) = omega arith in
+    let k : l .i < length (l .r) = omega arith in
+    (search needs, (search needs, (map-more (λ (x : Waiter). x .address) (s .args .t1) _ (l .r) (l .i) h k (l .inv .1 .1))))
+
+returns : tie.Need-returns Inv-loop μ-loop
+returns c =
+    let l = c .before .loop in
+    let s = c .before .before in
+    let n : length (s .args .t1) ≡ 64 = omega (arith, s .good) in
+    let e : length (s .args .t1) ≤ l .i = omega arith in
+    let k : length (l .r) ≤ l .i = omega arith in
+    map-done (λ (x : Waiter). x .address) (s .args .t1) (l .r) (l .i) e k (l .inv .1 .1)
+
+pub addresses-of-spec : {M : Type 1} → statement M
+addresses-of-spec =
+    tie.close
+    (tie.spec
+    Inv-loop
+    μ-loop
+    loop-holds
+    mul-w
+    array-copy-out-w
+    mul-r
+    array-write-r
+    add-i
+    loop-less
+    loop-again
+    returns)

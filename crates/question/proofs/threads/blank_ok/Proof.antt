@@ -1,0 +1,35 @@
+use mathlib.Core.Path.{_≡_, refl, ap, sym, _∙_}
+use borrow.Author.Tests.{lt-ltb, le-ltb, eq-eqb, ne-eqb, le-leb, lt-leb, not-true, not-false}
+use Rattle.laws.specs.Logic.{_and_, and-no, and-yes}
+use Rattle.block.specs.Thread.{wordsList}
+use Rattle.sound.specs.Threads.{zeros?, places?, blank?}
+use borrow.Author.Needs.{needs}
+use Rattle.question.proofs.threads.blank_ok.Statement.{statement}
+use Rattle.question.proofs.threads.blank_ok.Tie as tie
+use Rattle.question.proofs.threads.blank_ok.Reads as reads
+use Rattle.question.proofs.threads.blank_ok.Lts as lts
+use Rattle.block.proofs.thread.thread_words.Reads as thread-words-reads
+use Rattle.question.proofs.threads.places_ok.Reads as places-ok-reads
+use Rattle.question.proofs.threads.words_zero.Reads as words-zero-reads
+
+thread-words-requires : tie.Need-thread-words-requires
+thread-words-requires c κs = search needs
+
+words-zero-requires : tie.Need-words-zero-requires
+words-zero-requires c κs = search needs
+
+returns : tie.Need-returns
+unfolding blank?
+returns c = sym (and-no _ _ (sym (c .before .words-zero .ensures ∙ ap (λ w. zeros? (wordsList w)) (c .before .before .thread-words .ensures)) ∙ not-true _ (c .if1 .taken)))
+
+places-ok-requires : tie.Need-places-ok-requires
+places-ok-requires c κs = search needs
+
+returns-2 : tie.Need-returns-2
+unfolding blank? places?
+returns-2 c = sym (and-yes _ _ (sym (c .before .before .before .words-zero .ensures ∙ ap (λ w. zeros? (wordsList w)) (c .before .before .before .before .thread-words .ensures)) ∙ not-false _ (c .before .before .if1 .left)) ∙ sym (c .places-ok .ensures))
+
+pub blank-ok-spec : {M : Type 1} → statement M
+blank-ok-spec =
+    tie.close
+    (tie.spec thread-words-requires words-zero-requires returns places-ok-requires returns-2)

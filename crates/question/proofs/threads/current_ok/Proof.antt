@@ -1,0 +1,20 @@
+use borrow.Author.Needs.{needs}
+use Rattle.question.proofs.threads.current_ok.Statement.{statement}
+use Rattle.question.proofs.threads.current_ok.Tie as tie
+use Rattle.question.proofs.threads.current_ok.Reads as reads
+use Rattle.question.proofs.threads.current_ok.Lts as lts
+
+enum-told : tie.Need-enum-told
+enum-told c = search needs
+
+enum-known-c : tie.Need-enum-known-c
+enum-known-c c = search needs
+
+returns : tie.Need-returns
+returns c = search needs
+
+returns-2 : tie.Need-returns-2
+returns-2 c = rw (c .before .c .given .1)
+
+pub current-ok-spec : {M : Type 1} → statement M
+current-ok-spec = tie.close (tie.spec enum-told enum-known-c returns returns-2)

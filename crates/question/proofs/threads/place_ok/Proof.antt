@@ -1,0 +1,27 @@
+use mathlib.Core.Path.{_≡_, refl, ap, sym, _∙_}
+use borrow.Author.Tests.{lt-ltb, le-ltb, eq-eqb, ne-eqb, le-leb, lt-leb, not-true, not-false}
+use Rattle.sound.specs.Threads.{place?}
+use borrow.Author.Needs.{needs}
+use Rattle.question.proofs.threads.place_ok.Statement.{statement}
+use Rattle.question.proofs.threads.place_ok.Tie as tie
+use Rattle.question.proofs.threads.place_ok.Reads as reads
+use Rattle.question.proofs.threads.place_ok.Lts as lts
+use Rattle.question.proofs.threads.blank_ok.Reads as blank-ok-reads
+use Rattle.question.proofs.threads.thread_ok.Reads as thread-ok-reads
+
+thread-ok-requires : tie.Need-thread-ok-requires
+thread-ok-requires c κs = search needs
+
+returns : tie.Need-returns
+unfolding place?
+returns c = rw (lt-ltb _ _ (c .before .if1 .taken)) (c .thread-ok .ensures)
+
+blank-ok-requires : tie.Need-blank-ok-requires
+blank-ok-requires c κs = search needs
+
+returns-2 : tie.Need-returns-2
+unfolding place?
+returns-2 c = rw (le-ltb _ _ (c .before .if1 .left)) (c .blank-ok .ensures)
+
+pub place-ok-spec : {M : Type 1} → statement M
+place-ok-spec = tie.close (tie.spec thread-ok-requires returns blank-ok-requires returns-2)

@@ -1,0 +1,6 @@
+-- Question 2 as it is computed, and that it is the test of its definition.
+pub mod Linear
+pub mod SameTls
+pub mod LinearObjects
+pub mod ObjectSteps
+pub mod Same

@@ -1,0 +1,61 @@
+-- Question 2 as it is computed: names, chains and TLS slots are counted once into arrays.
+use mathlib.Core.Path.{_≡_}
+use mathlib.Core.Bool.{Bool, true, false, not}
+use mathlib.Core.List.{List, [], _∷_, map}
+use Prim.Native.Nat.{ℕ, zero, suc, _+_, _-_}
+use lib.Dec.{eqb, leb, ltb}
+use lib.ListN.{length, getD}
+use Rattle.laws.specs.Logic.{pick, _and_, _or_}
+use Rattle.laws.specs.Numbers.{allTo, allBelow}
+use Rattle.types.specs.declared.thread.ThreadOption.{ThreadOption}
+use Rattle.types.specs.declared.thread.ThreadOption.the-variants.{NoThread, SomeThread}
+use Rattle.types.specs.declared.thread.ThreadStatus.{ThreadStatus}
+use Rattle.types.specs.declared.thread.ThreadStatus.the-variants.{Dead, Running, Ready, Sleeping, WaitSync, WaitArbiter, Dormant}
+use Rattle.types.specs.declared.thread.Thread as th
+use Rattle.types.specs.declared.object.KObject.{KObject}
+use Rattle.types.specs.declared.object.KObject.the-variants.{Free, Thread, Event, Mutex, Semaphore, Timer, AddressArbiter, Process, ResourceLimit}
+use Rattle.types.specs.declared.object.Slot.{Slot}
+use Rattle.types.specs.declared.object.HandleEntry.{HandleEntry}
+use Rattle.types.specs.Thread.{isDead}
+use Rattle.types.specs.Object.{kindNumber}
+use Rattle.sound.specs.View.{threadAt, slotAt}
+use Rattle.sound.specs.Threads.{place?}
+use Rattle.sound.specs.Tls.{heldIf}
+use Rattle.sound.specs.Objects.{isThread?, isProcess?}
+
+-- ---- threads
+unfoldable pub onePlace? : Bool → ℕ → Bool
+onePlace? true x = ltb 0 x and leb x 128
+onePlace? false x = eqb x 0
+
+abbrev pub runs? : ThreadStatus → Bool → Bool
+runs? Dead c = not c
+runs? Running c = c
+runs? Ready c = true
+runs? Sleeping c = true
+runs? WaitSync c = true
+runs? WaitArbiter c = true
+runs? Dormant c = true
+
+unfoldable pub places32? : ℕ → ThreadOption → List th.Thread → Bool
+places32? n c ts = allBelow 32 (λ i. place? n c i (threadAt ts i))
+
+-- the TLS slot of a thread, if it is live
+abbrev pub slotOf : th.Thread → List ℕ
+slotOf t = heldIf (isDead (t .status)) (t .tls) []
+
+-- no count of the first 32 is above 1
+unfoldable pub once32? : List ℕ → Bool
+once32? m = allBelow 32 (λ s. leb (getD m s 0) 1)
+
+-- ---- handles
+unfoldable pub entry? : Bool → ℕ → HandleEntry → ℕ → Bool
+entry? true low e next = leb low (e .handle .0) and (ltb (e .handle .0) next and (ltb 0 (e .object .0) and leb (e .object .0) 128))
+entry? false low e next = eqb (e .handle .0) 0 and eqb (e .object .0) 0
+
+-- ---- a slot that is named n times and stands f times on the free chain
+unfoldable pub slot? : Slot → ℕ → ℕ → Bool
+slot? s n f = eqb (s .refcount) n and (eqb (1 - kindNumber (s .object)) (1 - s .refcount) and eqb f (1 - kindNumber (s .object)))
+
+unfoldable pub slots? : List Slot → List ℕ → List ℕ → ℕ → Bool
+slots? l c m n = allTo n (λ o. slot? (slotAt l o) (getD c o 0) (getD m o 0))

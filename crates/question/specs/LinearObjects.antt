@@ -1,0 +1,86 @@
+-- The tests of objects and records as they are computed, over columns that one pass makes.
+use mathlib.Core.Bool.{Bool, true}
+use mathlib.Core.List.{List, [], _∷_, map}
+use Prim.Native.Nat.{ℕ, _-_}
+use lib.Dec.{eqb, leb, ltb}
+use lib.ListN.{getD, replicate}
+use Rattle.laws.specs.Logic.{pick, _and_, _or_}
+use Rattle.laws.specs.Count.{one?, at}
+use Rattle.laws.specs.Numbers.{allTo, allBelow}
+use Rattle.laws.specs.Walk.{walk, ends?}
+use Rattle.laws.specs.Tally.{tally, tallyAll}
+use Rattle.types.specs.declared.thread.ThreadOption.{ThreadOption}
+use Rattle.types.specs.declared.thread.ThreadOption.the-variants.{NoThread, SomeThread}
+use Rattle.types.specs.declared.thread.ThreadStatus.{ThreadStatus}
+use Rattle.types.specs.declared.thread.Thread as th
+use Rattle.types.specs.declared.object.KObject.{KObject}
+use Rattle.types.specs.declared.object.KObject.the-variants.{Free, Thread, Event, Mutex, Semaphore, Timer, AddressArbiter, Process, ResourceLimit}
+use Rattle.types.specs.declared.object.Slot.{Slot}
+use Rattle.types.specs.Thread.{isDead}
+use Rattle.sound.specs.View.{noSlot, slotAt}
+use Rattle.sound.specs.Objects.{isThread?, isProcess?}
+use Rattle.sound.specs.Records.{chain?}
+
+-- ---- kept objects: a number past the last slot reads the first one, and fails by the number
+unfoldable pub slotIndex : ℕ → ℕ
+slotIndex x = pick (eqb x 0) 0 (pick (ltb 128 x) 0 (x - 1))
+
+unfoldable pub keptThread? : ℕ → KObject → ℕ → Bool
+keptThread? x o t = eqb x 0 or (leb x 128 and isThread? t o)
+
+unfoldable pub keptProcess? : ℕ → KObject → Bool
+keptProcess? x o = eqb x 0 or (leb x 128 and isProcess? o)
+
+-- what stands at the index of object x
+abbrev pub indexed : List Slot → ℕ → KObject
+indexed l x = getD l (slotIndex x) noSlot .object
+
+unfoldable pub keptThreads? : List Slot → List ℕ → ℕ → Bool
+keptThreads? l k n = allBelow n (λ t. keptThread? (getD k t 0) (indexed l (getD k t 0)) t)
+
+-- ---- contents: 1 for a thread that is Dead or is none
+abbrev pub deadMark : ThreadStatus → ℕ
+deadMark s = one? (isDead s)
+
+abbrev pub deadMarks : List th.Thread → List ℕ
+deadMarks l = map (λ (t : th.Thread). deadMark (t .status)) l
+
+unfoldable pub live? : List ℕ → ℕ → Bool
+live? d t = eqb (getD d t 1) 0
+
+abbrev pub ownerBy? : List ℕ → ThreadOption → Bool
+ownerBy? d NoThread = true
+ownerBy? d (SomeThread t) = live? d t
+
+abbrev pub contentBy? : ℕ → List ℕ → KObject → Bool
+contentBy? n d (Free x) = true
+contentBy? n d (Thread t) = ltb t n
+contentBy? n d (Event e) = true
+contentBy? n d (Mutex m) = ownerBy? d (m .owner)
+contentBy? n d (Semaphore c) = true
+contentBy? n d (Timer t) = true
+contentBy? n d (AddressArbiter a) = true
+contentBy? n d Process = true
+contentBy? n d ResourceLimit = true
+
+unfoldable pub contentsBy? : ℕ → List ℕ → List Slot → ℕ → Bool
+contentsBy? n d l k = allTo k (λ o. contentBy? n d (slotAt l o .object))
+
+-- ---- records: chains of at most 64
+unfoldable pub endAll? : List ℕ → List ℕ → Bool
+endAll? nx [] = true
+endAll? nx (h ∷ hs) = ends? nx 64 h and endAll? nx hs
+
+abbrev pub walkAll : List ℕ → List ℕ → List (List ℕ)
+walkAll nx hs = map (walk nx 64) hs
+
+-- each of the cells 1 to n of m is 1
+unfoldable pub onceAll? : List ℕ → ℕ → Bool
+onceAll? m n = allTo n (λ i. eqb (getD m i 0) 1)
+
+unfoldable pub sharedOut? : List ℕ → List ℕ → ℕ → Bool
+sharedOut? nx hs free =
+    endAll? nx hs and (ends? nx 64 free and onceAll? (tally 129 (tallyAll 129 (replicate 129 0) (walkAll nx hs)) (walk nx 64 free)) 64)
+
+unfoldable pub chainsBy? : List ℕ → List ℕ → List ℕ → ℕ → List ℕ → ℕ → Bool
+chainsBy? nx ts ad n hs k = allTo k (λ o. chain? ts ad n (walk nx 64 (at hs o)))

@@ -1,0 +1,220 @@
+-- The cases of a chain walk, and one turn of each loop over slots, kept objects and records.
+use mathlib.Core.Path.{_≡_, refl, sym, _∙_}
+use mathlib.Core.Bool.{Bool, true, false}
+use mathlib.Core.Logic.{_≢_}
+use mathlib.Core.List.{List, [], _∷_, map}
+use Prim.Native.Nat.{ℕ, zero, suc, _+_, _-_, _≤_, _<_}
+use native.Mathlib.Numerals.{add-one}
+use native.Mathlib.Omega.{arith}
+use lib.Dec.{eqb, leb}
+use lib.ListN.{length, getD, set, take, drop, drop-of-length-le, List·getD-map}
+use lib.Seq.{drop-cons, take-all}
+use borrow.Author.Tests.{eq-eqb, ne-eqb, le-leb, lt-leb, le-ltb, lt-ltb}
+use Rattle.laws.specs.Logic.{_and_, _or_, and-false, and-assoc, and-end}
+use Rattle.laws.specs.Count.{at}
+use Rattle.laws.specs.StoreTest.{at-out}
+use Rattle.laws.specs.Walk.{walk, ends?}
+use Rattle.laws.specs.Numbers.{allTo-step, allTo-end}
+use Rattle.laws.specs.Tally.{bump, tally}
+use Rattle.units.specs.declared.ObjectId.{ObjectId}
+use Rattle.types.specs.declared.object.Slot.{Slot}
+use Rattle.sound.specs.View.{ids, noSlot, slotAt}
+use Rattle.sound.specs.Objects.{upTo128}
+use Rattle.sound.specs.Records.{has?, chain?, blanks?}
+use Rattle.question.specs.Linear.{slot?, slots?}
+use Rattle.question.specs.LinearObjects.{keptThread?, indexed, keptThreads?, contentBy?, contentsBy?, endAll?, onceAll?, chainsBy?}
+
+-- ---- cells and walks
+pub at-cell : (l : List ℕ) (r : ℕ) → r ≢ 0 → at l r ≡ getD l (r - 1) 0
+unfolding at
+at-cell l zero p = absurd (p refl)
+at-cell l (suc i) p = let e : suc i - 1 ≡ i = omega arith in rw e
+
+pub at-none : (l : List ℕ) (r : ℕ) → r ≡ 0 → at l r ≡ 0
+unfolding at
+at-none l r e = rw e
+
+-- inside a list what is taken past its end does not matter
+pub get-any : (l : List ℕ) (i a b : ℕ) → i < length l → getD l i a ≡ getD l i b
+get-any [] i a b h = absurd (omega arith)
+get-any (x ∷ l) zero a b h = refl
+get-any (x ∷ l) (suc i) a b h = get-any l i a b (omega arith)
+
+module _ (nx : List ℕ) where
+  pub walk-nil : (left h : ℕ) → h ≡ 0 → walk nx left h ≡ []
+  unfolding walk
+  walk-nil zero h e = refl
+  walk-nil (suc f) h e = rw e
+
+  pub walk-out : (left h : ℕ) → left ≡ 0 → walk nx left h ≡ []
+  unfolding walk
+  walk-out left h e = rw e
+
+  pub walk-go : (left h : ℕ) → left ≢ 0 → h ≢ 0 → walk nx left h ≡ h ∷ walk nx (left - 1) (at nx h)
+  unfolding walk
+  walk-go zero h p q = absurd (p refl)
+  walk-go (suc f) zero p q = absurd (q refl)
+  walk-go (suc f) (suc h) p q = let e : suc f - 1 ≡ f = omega arith in rw e
+
+  ends-nil : (left h : ℕ) → h ≡ 0 → ends? nx left h ≡ true
+  unfolding ends?
+  ends-nil zero h e = eq-eqb h 0 e
+  ends-nil (suc f) h e = rw e
+
+  ends-go : (left h : ℕ) → left ≢ 0 → h ≢ 0 → ends? nx left h ≡ leb h (length nx) and ends? nx (left - 1) (at nx h)
+  unfolding ends?
+  ends-go zero h p q = absurd (p refl)
+  ends-go (suc f) zero p q = absurd (q refl)
+  ends-go (suc f) (suc h) p q = let e : suc f - 1 ≡ f = omega arith in rw e
+
+  -- the returns of a function that marks a chain in m
+  module _ (m : List ℕ) (left h : ℕ) where
+    pub mark-nil : h ≡ 0 → (true ≡ ends? nx left h) × (m ≡ tally 129 m (walk nx left h))
+    unfolding tally
+    mark-nil e = (sym (ends-nil left h e), rw (walk-nil left h e))
+
+    pub mark-out : left ≡ 0 → h ≢ 0 → (false ≡ ends? nx left h) × (m ≡ tally 129 m (walk nx left h))
+    unfolding ends? tally
+    mark-out e p = (rw e (sym (ne-eqb h 0 p)), rw (walk-out left h e))
+
+    pub mark-far : left ≢ 0 → h ≢ 0 → length nx < h → (false ≡ ends? nx left h) × (bump 129 m h ≡ tally 129 m (walk nx left h))
+    unfolding tally _and_
+    mark-far p q f =
+        (rw (ends-go left h p q, lt-leb h (length nx) f), rw (walk-go left h p q, at-out nx h f, walk-nil (left - 1) 0 refl))
+
+    pub mark-go : left ≢ 0 → h ≢ 0 → h ≤ length nx
+        → (ends? nx (left - 1) (at nx h) ≡ ends? nx left h) × (tally 129 (bump 129 m h) (walk nx (left - 1) (at nx h)) ≡ tally 129 m (walk nx left h))
+    unfolding tally _and_
+    mark-go p q f = (rw (ends-go left h p q, le-leb h (length nx) f), rw (walk-go left h p q))
+
+-- ---- the first record of a walk: what was read of it decides, or the rest does
+module _ (nx ts ad : List ℕ) (left h : ℕ) (p : left ≢ 0) (q : h ≢ 0) (t : ℕ) (te : t ≡ at ts h) where
+  pub blank-thread : t ≢ 0 → false ≡ blanks? ts ad (walk nx left h)
+  unfolding blanks? _and_
+  blank-thread n = rw (walk-go nx left h p q, ← te, ne-eqb t 0 n)
+
+  pub chain-thread : (n : ℕ) → n ≤ t → false ≡ chain? ts ad n (walk nx left h)
+  unfolding chain? _and_
+  chain-thread n l = rw (walk-go nx left h p q, ← te, le-ltb t n l)
+
+  module _ (next : ℕ) (ne : next ≡ at nx h) where
+    pub has-thread : (u a : ℕ) → t ≢ u → has? ts ad u a (walk nx (left - 1) next) ≡ has? ts ad u a (walk nx left h)
+    unfolding has? _and_ _or_
+    has-thread u a n = rw (walk-go nx left h p q, ← te, ← ne, ne-eqb t u n)
+
+  module _ (a : ℕ) (ae : a ≡ at ad h) where
+    pub blank-address : t ≡ 0 → a ≢ 0 → false ≡ blanks? ts ad (walk nx left h)
+    unfolding blanks? _and_
+    blank-address e n = rw (walk-go nx left h p q, ← te, ← ae, eq-eqb t 0 e, ne-eqb a 0 n)
+
+    pub has-here : (u b : ℕ) → t ≡ u → a ≡ b → true ≡ has? ts ad u b (walk nx left h)
+    unfolding has? _and_ _or_
+    has-here u b e f = rw (walk-go nx left h p q, ← te, ← ae, eq-eqb t u e, eq-eqb a b f)
+
+    module _ (next : ℕ) (ne : next ≡ at nx h) where
+      pub blank-go : t ≡ 0 → a ≡ 0 → blanks? ts ad (walk nx (left - 1) next) ≡ blanks? ts ad (walk nx left h)
+      unfolding blanks? _and_
+      blank-go e f = rw (walk-go nx left h p q, ← te, ← ae, ← ne, eq-eqb t 0 e, eq-eqb a 0 f)
+
+      pub has-address : (u b : ℕ) → a ≢ b → has? ts ad u b (walk nx (left - 1) next) ≡ has? ts ad u b (walk nx left h)
+      unfolding has? _or_
+      has-address u b n = rw (walk-go nx left h p q, ← ae, ← ne, ne-eqb a b n, and-false (eqb (at ts h) u))
+
+      pub chain-twice : (n : ℕ) → t < n → has? ts ad t a (walk nx (left - 1) next) ≡ true → false ≡ chain? ts ad n (walk nx left h)
+      unfolding chain? _and_
+      chain-twice n l e = rw (walk-go nx left h p q, ← te, ← ae, ← ne, lt-ltb t n l, e)
+
+      pub chain-go : (n : ℕ) → t < n → has? ts ad t a (walk nx (left - 1) next) ≡ false → chain? ts ad n (walk nx (left - 1) next) ≡ chain? ts ad n (walk nx left h)
+      unfolding chain? _and_
+      chain-go n l e = rw (walk-go nx left h p q, ← te, ← ae, ← ne, lt-ltb t n l, e)
+
+-- ---- a column is made from left to right
+module _ {A : Type 0} (f : A → ℕ) where
+  pub map-more : (l : List A) (d : A) (r : List ℕ) (i : ℕ) → i < length l → i < length r → take i r ≡ map f (take i l)
+      → take (i + 1) (set r i (f (getD l i d))) ≡ map f (take (i + 1) l)
+  map-more l d r i h k e = rw add-one (go l r i h k e)
+    where
+      go : (l : List A) (r : List ℕ) (i : ℕ) → i < length l → i < length r → take i r ≡ map f (take i l)
+          → take (suc i) (set r i (f (getD l i d))) ≡ map f (take (suc i) l)
+      go [] r i h k e = absurd (omega arith)
+      go (x ∷ l) [] i h k e = absurd (omega arith)
+      go (x ∷ l) (y ∷ r) zero h k e = refl
+      go (x ∷ l) (y ∷ r) (suc i) h k e =
+          let a : y ≡ f x = cc in
+          let b : take i r ≡ map f (take i l) = cc in
+          rw (a, go l r i (omega arith) (omega arith) b)
+
+  pub map-done : (l : List A) (r : List ℕ) (i : ℕ) → length l ≤ i → length r ≤ i → take i r ≡ map f (take i l) → r ≡ map f l
+  map-done l r i h k e = sym (take-all i r k) ∙ e ∙ rw (take-all i l h)
+
+-- ---- tests of every slot, from the last to the first
+slot-at : (l : List Slot) (o : ℕ) → 0 < o → slotAt l o ≡ getD l (o - 1) noSlot
+unfolding slotAt
+slot-at l zero h = absurd (omega arith)
+slot-at l (suc i) h = let e : suc i - 1 ≡ i = omega arith in rw e
+
+pub slots-step : (l : List Slot) (c m : List ℕ) (o : ℕ) → 0 < o
+    → slots? l c m o ≡ slot? (getD l (o - 1) noSlot) (getD c o 0) (getD m o 0) and slots? l c m (o - 1)
+unfolding slots?
+slots-step l c m o h = allTo-step _ o h ∙ rw (slot-at l o h)
+
+pub slots-end : (l : List Slot) (c m : List ℕ) (o : ℕ) → o ≤ 0 → slots? l c m o ≡ true
+unfolding slots?
+slots-end l c m o h = allTo-end _ o h
+
+pub contents-step : (n : ℕ) (d : List ℕ) (l : List Slot) (o : ℕ) → 0 < o
+    → contentsBy? n d l o ≡ contentBy? n d (getD l (o - 1) noSlot .object) and contentsBy? n d l (o - 1)
+unfolding contentsBy?
+contents-step n d l o h = allTo-step _ o h ∙ rw (slot-at l o h)
+
+pub contents-end : (n : ℕ) (d : List ℕ) (l : List Slot) (o : ℕ) → o ≤ 0 → contentsBy? n d l o ≡ true
+unfolding contentsBy?
+contents-end n d l o h = allTo-end _ o h
+
+-- ---- kept objects
+abbrev noId : ObjectId
+noId = record { 0 = 0 }
+
+pub upTo-step : (l : List ObjectId) (i : ℕ) → i < length l → upTo128 (ids (drop i l)) ≡ leb (getD l i noId .0) 128 and upTo128 (ids (drop (i + 1) l))
+unfolding upTo128
+upTo-step l i h = rw (drop-cons l i noId h, add-one)
+
+pub upTo-end : (l : List ObjectId) (i : ℕ) → length l ≤ i → upTo128 (ids (drop i l)) ≡ true
+unfolding upTo128
+upTo-end l i h = rw (drop-of-length-le l h)
+
+pub kept-step : (l : List Slot) (k : List ObjectId) (t : ℕ) → 0 < t
+    → keptThreads? l (ids k) t ≡ keptThread? (getD k (t - 1) noId .0) (indexed l (getD k (t - 1) noId .0)) (t - 1) and keptThreads? l (ids k) (t - 1)
+unfolding keptThreads?
+kept-step l k t h = allTo-step _ t h ∙ rw (List·getD-map (λ (o : ObjectId). o .0) k (t - 1) noId)
+
+pub kept-end : (l : List Slot) (k : List ℕ) (t : ℕ) → t ≤ 0 → keptThreads? l k t ≡ true
+unfolding keptThreads?
+kept-end l k t h = allTo-end _ t h
+
+-- ---- records
+module _ (nx hs : List ℕ) (i : ℕ) where
+  pub ends-more : (b : Bool) → i < length hs → b and endAll? nx (drop i hs) ≡ (b and ends? nx 64 (getD hs i 0)) and endAll? nx (drop (i + 1) hs)
+  unfolding endAll?
+  ends-more b h = rw (drop-cons hs i 0 h, add-one) (and-assoc b _ _)
+
+  pub ends-none : (b : Bool) → length hs ≤ i → b and endAll? nx (drop i hs) ≡ b
+  unfolding endAll?
+  ends-none b h = rw (drop-of-length-le hs h) (and-end b)
+
+pub once-step : (m : List ℕ) (i : ℕ) → 0 < i → onceAll? m i ≡ eqb (getD m i 0) 1 and onceAll? m (i - 1)
+unfolding onceAll?
+once-step m i h = allTo-step _ i h
+
+pub once-end : (m : List ℕ) (i : ℕ) → i ≤ 0 → onceAll? m i ≡ true
+unfolding onceAll?
+once-end m i h = allTo-end _ i h
+
+pub chains-step : (nx ts ad : List ℕ) (n : ℕ) (hs : List ℕ) (o : ℕ) → 0 < o
+    → chainsBy? nx ts ad n hs o ≡ chain? ts ad n (walk nx 64 (getD hs (o - 1) 0)) and chainsBy? nx ts ad n hs (o - 1)
+unfolding chainsBy?
+chains-step nx ts ad n hs o h = allTo-step _ o h ∙ rw (at-cell hs o (omega arith))
+
+pub chains-end : (nx ts ad : List ℕ) (n : ℕ) (hs : List ℕ) (o : ℕ) → o ≤ 0 → chainsBy? nx ts ad n hs o ≡ true
+unfolding chainsBy?
+chains-end nx ts ad n hs o h = allTo-end _ o h

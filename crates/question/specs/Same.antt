@@ -1,0 +1,203 @@
+-- The tests of objects and records as they are computed are those of their definitions.
+use mathlib.Core.Path.{_≡_, refl, ap, sym, _∙_}
+use mathlib.Core.Bool.{Bool, true, false, not}
+use mathlib.Core.Logic.{inl, inr}
+use mathlib.Core.List.{List, [], _∷_}
+use Prim.Native.Nat.{ℕ, zero, suc, _+_, _-_, _*_, _≤_}
+use native.Mathlib.Omega.{arith}
+use lib.Dec.{eqb, leb}
+use lib.ListN.{length, getD, replicate, length-map, List·getD-map, List·getD-eq-default}
+use borrow.Author.Tests.{ne-eqb, le-leb, lt-leb, le-ltb}
+use Rattle.laws.specs.Logic.{_and_, _or_, lt-cases}
+use Rattle.laws.specs.All.{All}
+use Rattle.laws.specs.Count.{count, countAll, one?}
+use Rattle.laws.specs.Numbers.{allTo-same}
+use Rattle.laws.specs.Walk.{walk, ends?, walk-length}
+use Rattle.laws.specs.Tally.{bump, tally, tallyAll, bump-get, length-tally, tally-get, tally-le, length-tallyAll, tallyAll-get, tallyAll-le, zero-get, zero-le}
+use Rattle.laws.specs.StoreTest as store
+use Rattle.laws.specs.PoolTest.{walks, end?, pool?}
+use Rattle.units.specs.declared.ObjectId.{ObjectId}
+use Rattle.types.specs.declared.thread.ThreadOption.{ThreadOption}
+use Rattle.types.specs.declared.thread.ThreadOption.the-variants.{NoThread, SomeThread}
+use Rattle.types.specs.declared.thread.Thread as th
+use Rattle.types.specs.declared.object.KObject.{KObject}
+use Rattle.types.specs.declared.object.KObject.the-variants.{Free, Thread, Event, Mutex, Semaphore, Timer, AddressArbiter, Process, ResourceLimit}
+use Rattle.types.specs.declared.object.Slot.{Slot}
+use Rattle.types.specs.declared.object.Waiter.{Waiter}
+use Rattle.types.specs.declared.object.HandleEntry.{HandleEntry}
+use Rattle.types.specs.declared.object.HandleTable.{HandleTable}
+use Rattle.types.specs.declared.object.ObjectStore.{ObjectStore}
+use Rattle.types.specs.Thread.{isDead}
+use Rattle.types.specs.Object.{kindNumber, nextOf, headOf}
+use Rattle.sound.specs.View.{kinds, refs, nexts, ids, handled, lists, heads, waiterNexts, waiterThreads, waiterAddresses, noSlot, noThread, slotAt, threadAt, at-slots}
+use Rattle.sound.specs.Objects.{names, keptNames, held?, isThread?, isProcess?, kept?, owner?, content?, contents?}
+use Rattle.sound.specs.Records.{chain?, blanks?, chained?, freeChain, records?}
+use Rattle.tally.specs.Lists.{Eight}
+use Rattle.question.specs.Linear.{slot?, slots?}
+use Rattle.question.specs.LinearObjects.{slotIndex, keptThread?, keptProcess?, indexed, keptThreads?, deadMark, deadMarks, live?, ownerBy?, contentBy?, contentsBy?, endAll?, walkAll, onceAll?, sharedOut?, chainsBy?}
+
+-- ---- counts and the free chain
+module _ (s : ObjectStore) (t : HandleTable) (ts : List th.Thread) (ns : length (s .slots) ≡ 128) (ne : length (t .entries) ≡ 256)
+    (nt : length ts ≡ 32) (a : All Eight ts) (nk : length (s .«thread_objects») ≡ 32) where
+  abbrev counts : List ℕ
+  counts = bump 129 (tally 129 (tallyAll 129 (tally 129 (replicate 129 0) (handled (t .entries))) (lists ts)) (ids (s .«thread_objects»))) (s .«process_object» .0)
+
+  abbrev marks : List ℕ
+  marks = tally 129 (replicate 129 0) (walk (nexts (s .slots)) 128 (s .free))
+
+  all-lists : (l : List th.Thread) → All Eight l → All (λ (x : List ℕ). length x ≤ 8) (lists l)
+  all-lists [] e = tt
+  all-lists (x ∷ l) e = (omega (arith, e .0, length-map (x .«wait_objects») (λ (o : ObjectId). o .0)), all-lists l (e .1))
+
+  counted : (o : ℕ) → o ≤ 128 → getD counts o 0 ≡ names t ts o + keptNames s o
+  unfolding names keptNames
+  counted o h =
+      let os = handled (t .entries) in
+      let ls = lists ts in
+      let ks = ids (s .«thread_objects») in
+      let c₀ : List ℕ = replicate 129 0 in
+      let c₁ = tally 129 c₀ os in
+      let c₂ = tallyAll 129 c₁ ls in
+      let c₃ = tally 129 c₂ ks in
+      let eo : length os ≡ 256 = length-map (t .entries) (λ (e : HandleEntry). e .object .0) ∙ ne in
+      let el : length ls ≡ 32 = length-map ts (λ (x : th.Thread). ids (x .«wait_objects»)) ∙ nt in
+      let ek : length ks ≡ 32 = length-map (s .«thread_objects») (λ (o : ObjectId). o .0) ∙ nk in
+      let n₁ : length c₁ ≡ 129 = length-tally 129 c₀ os in
+      let n₂ : length c₂ ≡ 129 = length-tallyAll 129 c₁ ls ∙ n₁ in
+      let n₃ : length c₃ ≡ 129 = length-tally 129 c₂ ks ∙ n₂ in
+      let w = all-lists ts a in
+      let b₁ : (i : ℕ) → getD c₁ i 0 ≤ 256 = λ i. omega (arith, tally-le 129 os c₀ 0 refl (zero-le 129) (omega arith) i) in
+      let r : 256 + length ls * 8 ≤ 100000 = rw el (omega arith) in
+      let b₂ : (i : ℕ) → getD c₂ i 0 ≤ 512 = λ i. omega (arith, rw el at (tallyAll-le 129 8 ls c₁ 256 w n₁ b₁ r i)) in
+      let b₃ : (i : ℕ) → getD c₃ i 0 ≤ 544 = λ i. omega (arith, tally-le 129 ks c₂ 512 n₂ b₂ (omega arith) i) in
+      omega (
+        arith,
+        bump-get 129 c₃ n₃ (s .«process_object» .0) (omega (arith, b₃ (s .«process_object» .0))) o (omega arith),
+        tally-get 129 ks c₂ 512 n₂ b₂ (omega arith) o (omega arith),
+        tallyAll-get 129 8 ls c₁ 256 w n₁ b₁ r o (omega arith),
+        tally-get 129 os c₀ 0 refl (zero-le 129) (omega arith) o (omega arith),
+        zero-get 129 o,
+      )
+
+  marked : (o : ℕ) → o ≤ 128 → getD marks o 0 ≡ count o (walk (nexts (s .slots)) 128 (s .free))
+  marked o h =
+      let os = walk (nexts (s .slots)) 128 (s .free) in
+      omega (arith, tally-get 129 os (replicate 129 0) 0 refl (zero-le 129) (omega (arith, walk-length (nexts (s .slots)) 128 (s .free))) o (omega arith), zero-get 129 o)
+
+  pub held-same : ends? (nexts (s .slots)) 128 (s .free) and slots? (s .slots) counts marks 128 ≡ held? s (names t ts)
+  unfolding held? store.store? store.slot? slots? slot? _and_
+  held-same =
+      let l = s .slots in
+      let lk : length (kinds l) ≡ 128 = length-map l (λ (x : Slot). kindNumber (x .object)) ∙ ns in
+      let lr : length (refs l) ≡ 128 = length-map l (λ (x : Slot). x .refcount) ∙ ns in
+      let ln : length (nexts l) ≡ 128 = length-map l (λ (x : Slot). nextOf (x .object)) ∙ ns in
+      rw (lk, lr, ln)
+      (ap (λ (b : Bool). ends? (nexts l) 128 (s .free) and b)
+      (allTo-same 128 _ _ (λ o p q.
+      rw (counted o q, marked o q, at-slots (λ (x : Slot). x .refcount) l o refl, at-slots (λ (x : Slot). kindNumber (x .object)) l o refl))))
+
+-- ---- kept objects
+index-in : (i : ℕ) → suc i ≤ 128 → slotIndex (suc i) ≡ i
+unfolding slotIndex
+index-in i h = let e : suc i - 1 ≡ i = omega arith in rw (ne-eqb (suc i) 0 (omega arith), le-ltb 128 (suc i) h, e)
+
+module _ (p : KObject → Bool) (out : p (Free 0) ≡ false) (l : List Slot) (n : length l ≡ 128) where
+  kept-one : (x : ℕ) → eqb x 0 or (leb x 128 and p (indexed l x)) ≡ eqb x 0 or p (slotAt l x .object)
+  unfolding _or_ _and_ slotAt
+  kept-one zero = refl
+  kept-one (suc i) =
+      elim (lt-cases 128 (suc i)) [
+        | inl h ↦ rw (ne-eqb (suc i) 0 (omega arith), lt-leb (suc i) 128 h, List·getD-eq-default l noSlot {n = i} (omega arith)) (sym out)
+        | inr h ↦ rw (ne-eqb (suc i) 0 (omega arith), le-leb (suc i) 128 h) (ap (λ (j : ℕ). p (getD l j noSlot .object)) (index-in i h))
+      ]
+
+pub kept-same : (s : ObjectStore) → length (s .slots) ≡ 128
+    → keptThreads? (s .slots) (ids (s .«thread_objects»)) 32 and keptProcess? (s .«process_object» .0) (indexed (s .slots) (s .«process_object» .0)) ≡ kept? s
+unfolding kept? keptThreads? keptThread? keptProcess?
+kept-same s n =
+    let x = s .«process_object» .0 in
+    rw (kept-one isProcess? refl (s .slots) n x, allTo-same 32 _ _ (λ i a b. kept-one (isThread? (i - 1)) refl (s .slots) n (getD (ids (s .«thread_objects»)) (i - 1) 0)))
+
+-- ---- contents
+not-mark : (b : Bool) → eqb (one? b) 0 ≡ not b
+not-mark true = refl
+not-mark false = refl
+
+live-same : (ts : List th.Thread) (t : ℕ) → live? (deadMarks ts) t ≡ not (isDead (threadAt ts t .status))
+unfolding live?
+live-same ts t = ap (λ (k : ℕ). eqb k 0) (List·getD-map (λ (x : th.Thread). deadMark (x .status)) ts t noThread) ∙ not-mark (isDead (threadAt ts t .status))
+
+owner-same : (ts : List th.Thread) (w : ThreadOption) → ownerBy? (deadMarks ts) w ≡ owner? ts w
+owner-same ts NoThread = refl
+owner-same ts (SomeThread t) = live-same ts t
+
+content-same : (n : ℕ) (ts : List th.Thread) (o : KObject) → contentBy? n (deadMarks ts) o ≡ content? n ts o
+content-same n ts (Free x) = refl
+content-same n ts (Thread t) = refl
+content-same n ts (Event e) = refl
+content-same n ts (Mutex m) = owner-same ts (m .owner)
+content-same n ts (Semaphore c) = refl
+content-same n ts (Timer t) = refl
+content-same n ts (AddressArbiter a) = refl
+content-same n ts Process = refl
+content-same n ts ResourceLimit = refl
+
+pub contents-same : (n : ℕ) (ts : List th.Thread) (s : ObjectStore) → contentsBy? n (deadMarks ts) (s .slots) 128 ≡ contents? n ts s
+unfolding contentsBy? contents?
+contents-same n ts s = allTo-same 128 _ _ (λ o a b. content-same n ts (slotAt (s .slots) o .object))
+
+-- ---- records
+module _ (nx : List ℕ) (n : length nx ≡ 64) where
+  walks-same : (hs : List ℕ) → walks nx hs ≡ walkAll nx hs
+  unfolding walks
+  walks-same [] = refl
+  walks-same (h ∷ hs) = rw (n, walks-same hs)
+
+  ends-same : (hs : List ℕ) → end? nx hs ≡ endAll? nx hs
+  unfolding end? endAll?
+  ends-same [] = refl
+  ends-same (h ∷ hs) = rw (n, ends-same hs)
+
+  all-short : (hs : List ℕ) → All (λ (x : List ℕ). length x ≤ 64) (walkAll nx hs)
+  all-short [] = tt
+  all-short (h ∷ hs) = (walk-length nx 64 h, all-short hs)
+
+  module _ (hs : List ℕ) (m : length hs ≡ 128) (free : ℕ) where
+    once-get : (i : ℕ) → i ≤ 64 → getD (tally 129 (tallyAll 129 (replicate 129 0) (walkAll nx hs)) (walk nx 64 free)) i 0
+        ≡ countAll i (walkAll nx hs) + count i (walk nx 64 free)
+    once-get i h =
+        let ls = walkAll nx hs in
+        let os = walk nx 64 free in
+        let c₀ : List ℕ = replicate 129 0 in
+        let c₁ = tallyAll 129 c₀ ls in
+        let el : length ls ≡ 128 = length-map hs (walk nx 64) ∙ m in
+        let r : 0 + length ls * 64 ≤ 100000 = rw el (omega arith) in
+        let n₁ : length c₁ ≡ 129 = length-tallyAll 129 c₀ ls in
+        let b₁ : (j : ℕ) → getD c₁ j 0 ≤ 8192 = λ j. omega (arith, rw el at (tallyAll-le 129 64 ls c₀ 0 (all-short hs) refl (zero-le 129) r j)) in
+        omega (
+          arith,
+          tally-get 129 os c₁ 8192 n₁ b₁ (omega (arith, walk-length nx 64 free)) i (omega arith),
+          tallyAll-get 129 64 ls c₀ 0 (all-short hs) refl (zero-le 129) r i (omega arith),
+          zero-get 129 i,
+        )
+
+    shared-same : sharedOut? nx hs free ≡ pool? nx hs free
+    unfolding sharedOut? pool? onceAll?
+    shared-same =
+        rw (n, walks-same hs, ends-same hs)
+        (ap (λ (b : Bool). endAll? nx hs and (ends? nx 64 free and b)) (allTo-same 64 _ _ (λ i a b. ap (λ (k : ℕ). eqb k 1) (once-get i b))))
+
+pub records-same : (n : ℕ) (s : ObjectStore) → length (s .slots) ≡ 128 → length (s .waiters) ≡ 64
+    → sharedOut? (waiterNexts (s .waiters)) (heads (s .slots)) (s .«free_waiter»)
+    and (chainsBy? (waiterNexts (s .waiters)) (waiterThreads (s .waiters)) (waiterAddresses (s .waiters)) n (heads (s .slots)) 128
+    and blanks? (waiterThreads (s .waiters)) (waiterAddresses (s .waiters)) (freeChain s))
+    ≡ records? n s
+unfolding records? chained? chainsBy?
+records-same n s a b =
+    let ln : length (waiterNexts (s .waiters)) ≡ 64 = length-map (s .waiters) (λ (w : Waiter). w .next) ∙ b in
+    let lh : length (heads (s .slots)) ≡ 128 = length-map (s .slots) (λ (x : Slot). headOf (x .object)) ∙ a in
+    rw (shared-same (waiterNexts (s .waiters)) ln (heads (s .slots)) lh (s .«free_waiter»))
+    (ap (λ (t : Bool). pool? (waiterNexts (s .waiters)) (heads (s .slots)) (s .«free_waiter») and (t and blanks? (waiterThreads (s .waiters)) (waiterAddresses (s .waiters)) (freeChain s)))
+    (allTo-same 128 _ _ (λ o p q.
+    ap (λ (h : ℕ). chain? (waiterThreads (s .waiters)) (waiterAddresses (s .waiters)) n (walk (waiterNexts (s .waiters)) 64 h))
+    (at-slots (λ (x : Slot). headOf (x .object)) (s .slots) o refl))))

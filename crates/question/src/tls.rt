@@ -1,0 +1,81 @@
+// TLS slots.
+use types::thread::Thread;
+ghost use mathlib.Core.Path.{_≡_};
+ghost use Prim.Native.Nat.{_+_, _-_, _<_, _≤_};
+ghost use lib.ListN.{length};
+ghost use Rattle.laws.specs.Tally.{tally};
+ghost use Rattle.sound.specs.Tls.{held, below?, tls?};
+ghost use Rattle.question.specs.Linear.{slotOf, once32?};
+
+fn tally_slot(m: &mut [u32; 129], t: Thread)
+    ensures { λ _. ⌜ now (m .exit) ≡ tally 129 (now (m .entry)) (slotOf t) ⌝ }
+{
+    let s = t.status;
+    if types::thread::is_dead(s) {
+        return;
+    }
+    tally::bump_at(m, t.tls);
+}
+
+fn tally_tls(m: &mut [u32; 129], ts: [Thread; 32])
+    ensures { λ _. ⌜ now (m .exit) ≡ tally 129 (now (m .entry)) (held ts) ⌝ }
+    ensures { λ _. ⌜ length ts ≡ 32 ⌝ }
+{
+    let mut i: usize = 0;
+    while i < 32 {
+        tally_slot(m, ts[i]);
+        i += 1;
+    }
+}
+
+fn slot_below(next: u32, t: Thread) -> bool
+    ensures { λ r. ⌜ r ≡ below? next (slotOf t) ⌝ }
+{
+    let s = t.status;
+    if types::thread::is_dead(s) {
+        return true;
+    }
+    t.tls < next
+}
+
+// The slots of live threads are below next.
+fn below_ok(next: u32, ts: [Thread; 32]) -> bool
+    ensures { λ r. ⌜ r ≡ below? next (held ts) ⌝ }
+{
+    let mut i: usize = 0;
+    while i < 32 {
+        if !slot_below(next, ts[i]) {
+            return false;
+        }
+        i += 1;
+    }
+    true
+}
+
+// No count of the first 32 is above 1.
+fn once_ok(m: [u32; 129]) -> bool
+    ensures { λ r. ⌜ r ≡ once32? m ⌝ }
+{
+    let mut i: usize = 32;
+    while 0 < i {
+        if 1 < m[i - 1] {
+            return false;
+        }
+        i -= 1;
+    }
+    true
+}
+
+pub fn tls_ok(ts: [Thread; 32], next: u32) -> bool
+    ensures { λ r. ⌜ r ≡ tls? ts next ⌝ }
+{
+    if 32 < next {
+        return false;
+    }
+    if !below_ok(next, ts) {
+        return false;
+    }
+    let mut m = [0u32; 129];
+    tally_tls(&mut m, ts);
+    once_ok(m)
+}

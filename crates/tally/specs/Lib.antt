@@ -1,0 +1,2 @@
+-- The definitions that the contracts of `tally` cite.
+pub mod Lists

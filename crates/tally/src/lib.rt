@@ -1,0 +1,81 @@
+// Counting into an array: how often each number is named.
+use types::object::HandleEntry;
+use types::thread::Thread;
+use units::ObjectId;
+ghost use mathlib.Core.Path.{_≡_};
+ghost use Prim.Native.Nat.{_+_, _≤_};
+ghost use lib.ListN.{length};
+ghost use Rattle.laws.specs.All.{All};
+ghost use Rattle.laws.specs.Tally.{bump, tally, tallyAll};
+ghost use Rattle.sound.specs.View.{ids, handled, lists};
+ghost use Rattle.tally.specs.Lists.{Eight};
+
+// One more for o.
+pub fn bump_at(c: &mut [u32; 129], o: u32)
+    ensures { λ _. ⌜ now (c .exit) ≡ bump 129 (now (c .entry)) o ⌝ }
+{
+    if 128 < o {
+        return;
+    }
+    let i = o as usize;
+    let v = c[i];
+    if 100000 <= v {
+        return;
+    }
+    c[i] = v + 1;
+}
+
+// One more for the object of each handle.
+pub fn tally_entries(c: &mut [u32; 129], es: [HandleEntry; 256])
+    ensures { λ _. ⌜ now (c .exit) ≡ tally 129 (now (c .entry)) (handled es) ⌝ }
+    ensures { λ _. ⌜ length es ≡ 256 ⌝ }
+{
+    let mut i: usize = 0;
+    while i < 256 {
+        let e = es[i];
+        let o = e.object;
+        bump_at(c, o.0);
+        i += 1;
+    }
+}
+
+// One more for each object of one list.
+pub fn tally_list(c: &mut [u32; 129], l: [ObjectId; 8])
+    ensures { λ _. ⌜ now (c .exit) ≡ tally 129 (now (c .entry)) (ids l) ⌝ }
+    ensures { λ _. ⌜ length l ≡ 8 ⌝ }
+{
+    let mut i: usize = 0;
+    while i < 8 {
+        let o = l[i];
+        bump_at(c, o.0);
+        i += 1;
+    }
+}
+
+// One more for each object that a thread's list names.
+pub fn tally_lists(c: &mut [u32; 129], ts: [Thread; 32])
+    ensures { λ _. ⌜ now (c .exit) ≡ tallyAll 129 (now (c .entry)) (lists ts) ⌝ }
+    ensures { λ _. ⌜ length ts ≡ 32 ⌝ }
+    ensures { λ _. ⌜ All Eight ts ⌝ }
+{
+    let mut i: usize = 0;
+    while i < 32 {
+        let t = ts[i];
+        let l = t.wait_objects;
+        tally_list(c, l);
+        i += 1;
+    }
+}
+
+// One more for each kept thread object.
+pub fn tally_kept(c: &mut [u32; 129], l: [ObjectId; 32])
+    ensures { λ _. ⌜ now (c .exit) ≡ tally 129 (now (c .entry)) (ids l) ⌝ }
+    ensures { λ _. ⌜ length l ≡ 32 ⌝ }
+{
+    let mut i: usize = 0;
+    while i < 32 {
+        let o = l[i];
+        bump_at(c, o.0);
+        i += 1;
+    }
+}
