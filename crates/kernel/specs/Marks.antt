@@ -1,6 +1,6 @@
 -- `next_event` as it is computed: the objects that blocked threads wait on are marked in an array.
 use mathlib.Core.Path.{_≡_, refl, ap, sym, _∙_}
-use mathlib.Core.Bool.{Bool, true, false}
+use mathlib.Core.Bool.{Bool, true, false, cond}
 use mathlib.Core.Logic.{_⊎_, inl, inr}
 use mathlib.Core.List.{List, [], _∷_, map}
 use Prim.Native.Nat.{ℕ, zero, suc, _+_, _*_, _≤_, _<_}
@@ -13,10 +13,12 @@ use Rattle.laws.specs.All.{All}
 use Rattle.laws.specs.Count.{count, countAll, ind, ind-eq, ind-other}
 use Rattle.laws.specs.Tally.{tallyAll, tallyAll-get, zero-get, zero-le}
 use Rattle.types.specs.declared.thread.TickOption.{TickOption}
+use Rattle.types.specs.declared.thread.TickOption.the-variants.{NoTick, SomeTick}
 use Rattle.types.specs.declared.thread.Thread.{Thread}
 use Rattle.types.specs.declared.object.Slot.{Slot}
 use Rattle.types.specs.Thread.{isBlocked}
 use Rattle.sound.specs.View.{ids}
+use Rattle.kernel.specs.declared.next_event.Earliest.{Earliest}
 use Rattle.kernel.specs.NextEvent.{contains, waitedOn, dueAfter, nextDue}
 
 -- the list of a thread, if it is blocked
@@ -25,6 +27,10 @@ listIf t = pick (isBlocked (t .status)) (ids (t .«wait_objects»)) []
 
 abbrev pub listsIf : List Thread → List (List ℕ)
 listsIf ts = map listIf ts
+
+-- the tick in two words
+abbrev pub option : Earliest → TickOption
+option e = cond (eqb (e .found) 0) NoTick (SomeTick (record { 0 = e .tick }))
 
 unfoldable pub dueMarked : List ℕ → TickOption → ℕ → List Slot → TickOption
 dueMarked m best o [] = best

@@ -16,33 +16,37 @@ ghost use Rattle.laws.specs.Tally.{tally, tallyAll};
 ghost use Rattle.types.specs.Thread.{isBlocked};
 ghost use Rattle.tally.specs.Lists.{Eight};
 ghost use Rattle.kernel.specs.NextEvent.{earlier, wakeAfter, nextWake, anyBlocked, dueOf, dueAfter, nextEvent};
-ghost use Rattle.kernel.specs.Marks.{listIf, listsIf, dueMarked};
+ghost use Rattle.kernel.specs.Marks.{listIf, listsIf, dueMarked, option};
 
-fn earlier_of(best: TickOption, at: Ticks) -> TickOption
-    ensures { λ r. ⌜ r ≡ earlier best (TickOption.SomeTick at) ⌝ }
-{
-    match best {
-        TickOption::NoTick => TickOption::SomeTick(at),
-        TickOption::SomeTick(b) => {
-            if at.0 < b.0 {
-                return TickOption::SomeTick(at);
-            }
-            TickOption::SomeTick(b)
-        }
-    }
+// The earliest tick so far, if found is not 0. Words and no enum, since an enum that goes round a loop is copied part by part at each turn.
+pub struct Earliest {
+    pub found: u64,
+    pub tick: u64,
 }
 
-fn earlier_option(best: TickOption, at: TickOption) -> TickOption
-    ensures { λ r. ⌜ r ≡ earlier best at ⌝ }
+fn earlier_of(best: Earliest, at: u64) -> Earliest
+    ensures { λ r. ⌜ option r ≡ earlier (option best) (TickOption.SomeTick (record { 0 = at })) ⌝ }
+{
+    if best.found == 0 {
+        return Earliest { found: 1, tick: at };
+    }
+    if at < best.tick {
+        return Earliest { found: 1, tick: at };
+    }
+    best
+}
+
+fn earlier_option(best: Earliest, at: TickOption) -> Earliest
+    ensures { λ r. ⌜ option r ≡ earlier (option best) at ⌝ }
 {
     match at {
         TickOption::NoTick => best,
-        TickOption::SomeTick(t) => earlier_of(best, t),
+        TickOption::SomeTick(t) => earlier_of(best, t.0),
     }
 }
 
-fn wake_after(best: TickOption, t: Thread) -> TickOption
-    ensures { λ r. ⌜ r ≡ wakeAfter best t ⌝ }
+fn wake_after(best: Earliest, t: Thread) -> Earliest
+    ensures { λ r. ⌜ option r ≡ wakeAfter (option best) t ⌝ }
 {
     let s = t.status;
     let at = t.wakeup_at;
@@ -52,10 +56,10 @@ fn wake_after(best: TickOption, t: Thread) -> TickOption
     best
 }
 
-fn next_wake(ts: [Thread; 32]) -> TickOption
-    ensures { λ r. ⌜ r ≡ nextWake TickOption.NoTick ts ⌝ }
+fn next_wake(ts: [Thread; 32]) -> Earliest
+    ensures { λ r. ⌜ option r ≡ nextWake TickOption.NoTick ts ⌝ }
 {
-    let mut best = TickOption::NoTick;
+    let mut best = Earliest { found: 0, tick: 0 };
     let mut i: usize = 0;
     while i < 32 {
         best = wake_after(best, ts[i]);
@@ -124,8 +128,8 @@ fn due_of(o: KObject) -> TickOption
     }
 }
 
-fn due_after(waited: bool, best: TickOption, s: Slot) -> TickOption
-    ensures { λ r. ⌜ r ≡ dueAfter waited best s ⌝ }
+fn due_after(waited: bool, best: Earliest, s: Slot) -> Earliest
+    ensures { λ r. ⌜ option r ≡ dueAfter waited (option best) s ⌝ }
 {
     if !waited {
         return best;
@@ -135,8 +139,8 @@ fn due_after(waited: bool, best: TickOption, s: Slot) -> TickOption
 }
 
 // The timers that m marks.
-fn next_due(first: TickOption, m: [u32; 129], l: [Slot; 128]) -> TickOption
-    ensures { λ r. ⌜ r ≡ dueMarked m first 1 l ⌝ }
+fn next_due(first: Earliest, m: [u32; 129], l: [Slot; 128]) -> Earliest
+    ensures { λ r. ⌜ option r ≡ dueMarked m (option first) 1 l ⌝ }
     ensures { λ _. ⌜ length l ≡ 128 ⌝ }
 {
     let mut best = first;
@@ -146,6 +150,15 @@ fn next_due(first: TickOption, m: [u32; 129], l: [Slot; 128]) -> TickOption
         i += 1;
     }
     best
+}
+
+fn option_of(e: Earliest) -> TickOption
+    ensures { λ r. ⌜ r ≡ option e ⌝ }
+{
+    if e.found == 0 {
+        return TickOption::NoTick;
+    }
+    TickOption::SomeTick(Ticks(e.tick))
 }
 
 pub fn next_event(k: Kernel) -> TickOption
@@ -160,5 +173,5 @@ pub fn next_event(k: Kernel) -> TickOption
     let best = next_wake(ts);
     let o = k.objects;
     let l = o.slots;
-    next_due(best, m, l)
+    option_of(next_due(best, m, l))
 }

@@ -1,7 +1,6 @@
 -- General laws, with no kernel in them.
 pub mod Logic
 pub mod Test
-pub mod Scan
 pub mod All
 pub mod Count
 pub mod Numbers

@@ -2,7 +2,7 @@
 use mathlib.Core.Path.{_≡_, refl, ap, sym, _∙_}
 use mathlib.Core.Bool.{Bool, true, false}
 use mathlib.Core.Logic.{_≢_}
-use mathlib.Core.List.{List, [], _∷_, map}
+use mathlib.Core.List.{List, [], _∷_}
 use Prim.Native.Nat.{ℕ, zero, suc, _+_, _-_, _≤_, _<_}
 use native.Mathlib.Numerals.{add-one}
 use native.Mathlib.Omega.{arith}
@@ -11,7 +11,6 @@ use borrow.Author.Tests.{leb-true, leb-false, ltb-true, ltb-false}
 use lib.ListN.{length, getD, drop, drop-of-length-le}
 use lib.Seq.{drop-cons}
 use Rattle.laws.specs.Logic.{pick, _and_, and-end, and-swap, and-assoc}
-use Rattle.laws.specs.Tally.{bump, tally}
 use Rattle.units.specs.declared.ObjectId.{ObjectId}
 use Rattle.types.specs.declared.thread.Thread.{Thread}
 use Rattle.types.specs.declared.thread.ThreadOption.{ThreadOption}
@@ -21,9 +20,10 @@ use Rattle.types.specs.declared.object.HandleEntry.{HandleEntry}
 use Rattle.types.specs.Thread.{isDead}
 use Rattle.sound.specs.View.{ids, noThread}
 use Rattle.sound.specs.Threads.{places?, zeros?, isCurrent, run?}
-use Rattle.sound.specs.Tls.{heldIf, held, below?}
+use Rattle.sound.specs.Tls.{heldIf, held, held-step, below?}
 use Rattle.sound.specs.Handles.{rising?, noEntries?}
-use Rattle.question.specs.Linear.{onePlace?, runs?, slotOf, entry?}
+use Rattle.tally.specs.Lists.{slotOf}
+use Rattle.question.specs.Linear.{onePlace?, runs?, entry?}
 
 -- ---- a wait list
 module _ (l : List ObjectId) (n i : ℕ) (d : ObjectId) (h : i < length l) where
@@ -104,11 +104,6 @@ pub rising-end : (es : List HandleEntry) (n low next : ℕ) → length es ≤ 25
 rising-end es n low next h = rw (drop-of-length-le es h) (rising-end-as n low next (leb n 256) refl)
 
 -- ---- TLS slots
-tally-if : (n : ℕ) (c : List ℕ) (b : Bool) (s : ℕ) (l : List ℕ) → tally n c (heldIf b s l) ≡ tally n (tally n c (heldIf b s [])) l
-unfolding tally
-tally-if n c true s l = refl
-tally-if n c false s l = refl
-
 below-if : (n : ℕ) (b : Bool) (s : ℕ) (l : List ℕ) → below? n (heldIf b s l) ≡ below? n (heldIf b s []) and below? n l
 unfolding below? _and_
 below-if n true s l = refl
@@ -118,20 +113,8 @@ below-if n false s l = go (ltb s n)
     go true = refl
     go false = refl
 
-module _ (ts : List Thread) (i : ℕ) (h : i < length ts) where
-  held-step : held (drop i ts) ≡ heldIf (isDead (getD ts i noThread .status)) (getD ts i noThread .tls) (held (drop (i + 1) ts))
-  unfolding held
-  held-step = rw (drop-cons ts i noThread h, add-one)
-
-  pub tally-held : (n : ℕ) (c : List ℕ) → tally n c (held (drop i ts)) ≡ tally n (tally n c (slotOf (getD ts i noThread))) (held (drop (i + 1) ts))
-  tally-held n c = ap (tally n c) held-step ∙ tally-if n c (isDead (getD ts i noThread .status)) (getD ts i noThread .tls) (held (drop (i + 1) ts))
-
-  pub below-held : (n : ℕ) → below? n (held (drop i ts)) ≡ below? n (slotOf (getD ts i noThread)) and below? n (held (drop (i + 1) ts))
-  below-held n = ap (below? n) held-step ∙ below-if n (isDead (getD ts i noThread .status)) (getD ts i noThread .tls) (held (drop (i + 1) ts))
-
-pub held-end : (ts : List Thread) (i : ℕ) → length ts ≤ i → held (drop i ts) ≡ []
-unfolding held
-held-end ts i h = rw (drop-of-length-le ts h)
+pub below-held : (ts : List Thread) (i : ℕ) → i < length ts → (n : ℕ) → below? n (held (drop i ts)) ≡ below? n (slotOf (getD ts i noThread)) and below? n (held (drop (i + 1) ts))
+below-held ts i h n = ap (below? n) (held-step ts i h) ∙ below-if n (isDead (getD ts i noThread .status)) (getD ts i noThread .tls) (held (drop (i + 1) ts))
 
 -- ---- who may run
 pub runs-is : (s : ThreadStatus) (c : ThreadOption) (i : ℕ) → runs? s (isCurrent c i) ≡ run? s c i

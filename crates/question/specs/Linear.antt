@@ -20,7 +20,6 @@ use Rattle.types.specs.Thread.{isDead}
 use Rattle.types.specs.Object.{kindNumber}
 use Rattle.sound.specs.View.{threadAt, slotAt}
 use Rattle.sound.specs.Threads.{place?}
-use Rattle.sound.specs.Tls.{heldIf}
 use Rattle.sound.specs.Objects.{isThread?, isProcess?}
 
 -- ---- threads
@@ -39,10 +38,6 @@ runs? Dormant c = true
 
 unfoldable pub places32? : ℕ → ThreadOption → List th.Thread → Bool
 places32? n c ts = allBelow 32 (λ i. place? n c i (threadAt ts i))
-
--- the TLS slot of a thread, if it is live
-abbrev pub slotOf : th.Thread → List ℕ
-slotOf t = heldIf (isDead (t .status)) (t .tls) []
 
 -- no count of the first 32 is above 1
 unfoldable pub once32? : List ℕ → Bool

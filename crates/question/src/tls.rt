@@ -5,28 +5,8 @@ ghost use Prim.Native.Nat.{_+_, _-_, _<_, _≤_};
 ghost use lib.ListN.{length};
 ghost use Rattle.laws.specs.Tally.{tally};
 ghost use Rattle.sound.specs.Tls.{held, below?, tls?};
-ghost use Rattle.question.specs.Linear.{slotOf, once32?};
-
-fn tally_slot(m: &mut [u32; 129], t: Thread)
-    ensures { λ _. ⌜ now (m .exit) ≡ tally 129 (now (m .entry)) (slotOf t) ⌝ }
-{
-    let s = t.status;
-    if types::thread::is_dead(s) {
-        return;
-    }
-    tally::bump_at(m, t.tls);
-}
-
-fn tally_tls(m: &mut [u32; 129], ts: [Thread; 32])
-    ensures { λ _. ⌜ now (m .exit) ≡ tally 129 (now (m .entry)) (held ts) ⌝ }
-    ensures { λ _. ⌜ length ts ≡ 32 ⌝ }
-{
-    let mut i: usize = 0;
-    while i < 32 {
-        tally_slot(m, ts[i]);
-        i += 1;
-    }
-}
+ghost use Rattle.tally.specs.Lists.{slotOf};
+ghost use Rattle.question.specs.Linear.{once32?};
 
 fn slot_below(next: u32, t: Thread) -> bool
     ensures { λ r. ⌜ r ≡ below? next (slotOf t) ⌝ }
@@ -76,6 +56,6 @@ pub fn tls_ok(ts: [Thread; 32], next: u32) -> bool
         return false;
     }
     let mut m = [0u32; 129];
-    tally_tls(&mut m, ts);
+    tally::tally_tls(&mut m, ts);
     once_ok(m)
 }

@@ -4,8 +4,11 @@ use mathlib.Core.Bool.{Bool, true, false}
 use mathlib.Core.Logic.{_⊎_, inl, inr}
 use mathlib.Core.List.{List, [], _∷_}
 use Prim.Native.Nat.{ℕ, zero, suc, _+_, _≤_, _<_}
+use native.Mathlib.Numerals.{add-one}
 use native.Mathlib.Omega.{arith}
 use lib.Dec.{leb, ltb}
+use lib.ListN.{length, getD, drop, drop-of-length-le}
+use lib.Seq.{drop-cons}
 use Rattle.laws.specs.Logic.{_and_, lt-cases}
 use Rattle.laws.specs.Test.{Test, t-yes, t-le, t-lt, t-and, t-as}
 use Rattle.laws.specs.Numbers.{allBelow, t-allBelow}
@@ -13,6 +16,7 @@ use Rattle.laws.specs.All.{All}
 use Rattle.laws.specs.Count.{count, ind-other}
 use Rattle.types.specs.declared.thread.Thread.{Thread}
 use Rattle.types.specs.Thread.{isDead}
+use Rattle.sound.specs.View.{noThread}
 
 -- the slots that live threads hold; a place not in use is Dead
 abbrev pub heldIf : Bool → ℕ → List ℕ → List ℕ
@@ -22,6 +26,16 @@ heldIf false s l = s ∷ l
 unfoldable pub held : List Thread → List ℕ
 held [] = []
 held (t ∷ ts) = heldIf (isDead (t .status)) (t .tls) (held ts)
+
+-- one turn of a loop over the threads
+pub held-step : (ts : List Thread) (i : ℕ) → i < length ts
+    → held (drop i ts) ≡ heldIf (isDead (getD ts i noThread .status)) (getD ts i noThread .tls) (held (drop (i + 1) ts))
+unfolding held
+held-step ts i h = rw (drop-cons ts i noThread h, add-one)
+
+pub held-end : (ts : List Thread) (i : ℕ) → length ts ≤ i → held (drop i ts) ≡ []
+unfolding held
+held-end ts i h = rw (drop-of-length-le ts h)
 
 unfoldable pub below? : ℕ → List ℕ → Bool
 below? n [] = true

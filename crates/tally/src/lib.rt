@@ -7,8 +7,9 @@ ghost use Prim.Native.Nat.{_+_, _≤_};
 ghost use lib.ListN.{length};
 ghost use Rattle.laws.specs.All.{All};
 ghost use Rattle.laws.specs.Tally.{bump, tally, tallyAll};
+ghost use Rattle.sound.specs.Tls.{held};
 ghost use Rattle.sound.specs.View.{ids, handled, lists};
-ghost use Rattle.tally.specs.Lists.{Eight};
+ghost use Rattle.tally.specs.Lists.{Eight, slotOf};
 
 // One more for o.
 pub fn bump_at(c: &mut [u32; 129], o: u32)
@@ -76,6 +77,28 @@ pub fn tally_kept(c: &mut [u32; 129], l: [ObjectId; 32])
     while i < 32 {
         let o = l[i];
         bump_at(c, o.0);
+        i += 1;
+    }
+}
+
+fn tally_slot(m: &mut [u32; 129], t: Thread)
+    ensures { λ _. ⌜ now (m .exit) ≡ tally 129 (now (m .entry)) (slotOf t) ⌝ }
+{
+    let s = t.status;
+    if types::thread::is_dead(s) {
+        return;
+    }
+    bump_at(m, t.tls);
+}
+
+// One more for the TLS slot of each live thread.
+pub fn tally_tls(m: &mut [u32; 129], ts: [Thread; 32])
+    ensures { λ _. ⌜ now (m .exit) ≡ tally 129 (now (m .entry)) (held ts) ⌝ }
+    ensures { λ _. ⌜ length ts ≡ 32 ⌝ }
+{
+    let mut i: usize = 0;
+    while i < 32 {
+        tally_slot(m, ts[i]);
         i += 1;
     }
 }

@@ -16,7 +16,7 @@ earlier-of-requires : tie.Need-earlier-of-requires
 earlier-of-requires c κs = search needs
 
 returns : tie.Need-returns
-returns c = search needs
+returns c = rw (c .enum-told .given .1)
 
 returns-2 : tie.Need-returns-2
 returns-2 c = c .earlier-of .ensures ∙ rw (c .before .before .at .given .1)

@@ -2,7 +2,7 @@ use mathlib.Core.Path.{_≡_, refl, ap, sym, _∙_}
 use Prim.Native.Nat.{_+_, _-_, _≤_, _<_}
 use native.Mathlib.Omega.{arith}
 use lib.ListN.{length, drop}
-use Rattle.kernel.specs.Marks.{dueMarked}
+use Rattle.kernel.specs.Marks.{dueMarked, option}
 use Rattle.kernel.proofs.Steps.{due-step, due-end}
 use borrow.Author.Needs.{needs}
 use Rattle.kernel.proofs.next_event.next_due.Statement.{statement}
@@ -12,7 +12,7 @@ use Rattle.kernel.proofs.next_event.next_due.Lts as lts
 use Rattle.kernel.proofs.next_event.due_after.Reads as due-after-reads
 
 abbrev Inv-loop : tie.InvT-loop
-Inv-loop m l best₀ i₀ best i = (i ≤ 128) × (dueMarked m best (i + 1) (drop i l) ≡ dueMarked m best₀ 1 l)
+Inv-loop m l best₀ i₀ best i = (i ≤ 128) × (dueMarked m (option best) (i + 1) (drop i l) ≡ dueMarked m (option best₀) 1 l)
 
 abbrev μ-loop : tie.MeasureT-loop
 μ-loop m l best₀ i₀ best i = 128 - i
@@ -49,14 +49,14 @@ loop-again c =
     let l = c .before .before .before .loop in
     let s = c .before .before .before .before in
     let n : length (s .args .t3) ≡ 128 = omega (arith, s .good) in
-    (search needs, rw (c .due-after .ensures) (sym (due-step (s .args .t2) (s .args .t3) (l .i) (l .best) (omega arith)) ∙ l .inv .1))
+    (search needs, rw (c .due-after .ensures) (sym (due-step (s .args .t2) (s .args .t3) (l .i) (option (l .best)) (omega arith)) ∙ l .inv .1))
 
 returns : tie.Need-returns Inv-loop μ-loop
 returns c =
     let l = c .before .loop in
     let s = c .before .before in
     let n : length (s .args .t3) ≡ 128 = omega (arith, s .good) in
-    (sym (due-end (s .args .t2) (s .args .t3) (l .i) (l .i + 1) (l .best) (omega arith)) ∙ l .inv .1, n)
+    (sym (due-end (s .args .t2) (s .args .t3) (l .i) (l .i + 1) (option (l .best)) (omega arith)) ∙ l .inv .1, n)
 
 pub next-due-spec : {M : Type 1} → statement M
 next-due-spec =

@@ -4,6 +4,7 @@ use native.Mathlib.Omega.{arith}
 use lib.ListN.{length, drop}
 use Rattle.types.specs.declared.thread.TickOption.the-variants.{NoTick}
 use Rattle.kernel.specs.NextEvent.{nextWake}
+use Rattle.kernel.specs.Marks.{option}
 use Rattle.kernel.proofs.Steps.{wake-step, wake-end}
 use borrow.Author.Needs.{needs}
 use Rattle.kernel.proofs.next_event.next_wake.Statement.{statement}
@@ -13,7 +14,7 @@ use Rattle.kernel.proofs.next_event.next_wake.Lts as lts
 use Rattle.kernel.proofs.next_event.wake_after.Reads as wake-after-reads
 
 abbrev Inv-loop : tie.InvT-loop
-Inv-loop ts best₀ i₀ best i = (i ≤ 32) × (nextWake best (drop i ts) ≡ nextWake NoTick ts)
+Inv-loop ts best₀ i₀ best i = (i ≤ 32) × (nextWake (option best) (drop i ts) ≡ nextWake NoTick ts)
 
 abbrev μ-loop : tie.MeasureT-loop
 μ-loop ts best₀ i₀ best i = 32 - i
@@ -41,14 +42,14 @@ loop-again c =
     let l = c .before .before .before .loop in
     let s = c .before .before .before .before in
     let n : length (s .args .t1) ≡ 32 = omega (arith, s .good) in
-    (search needs, rw (c .wake-after .ensures) (sym (wake-step (s .args .t1) (l .i) (l .best) (omega arith)) ∙ l .inv .1))
+    (search needs, rw (c .wake-after .ensures) (sym (wake-step (s .args .t1) (l .i) (option (l .best)) (omega arith)) ∙ l .inv .1))
 
 returns : tie.Need-returns Inv-loop μ-loop
 returns c =
     let l = c .before .loop in
     let s = c .before .before in
     let n : length (s .args .t1) ≡ 32 = omega (arith, s .good) in
-    sym (wake-end (s .args .t1) (l .i) (l .best) (omega arith)) ∙ l .inv .1
+    sym (wake-end (s .args .t1) (l .i) (option (l .best)) (omega arith)) ∙ l .inv .1
 
 pub next-wake-spec : {M : Type 1} → statement M
 next-wake-spec =

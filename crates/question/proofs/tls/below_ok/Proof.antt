@@ -4,8 +4,8 @@ use native.Mathlib.Omega.{arith}
 use lib.ListN.{length, drop}
 use borrow.Author.Tests.{lt-ltb, le-ltb, eq-eqb, ne-eqb, le-leb, lt-leb, not-true, not-false}
 use Rattle.laws.specs.Logic.{and-no, and-yes}
-use Rattle.sound.specs.Tls.{held, below?}
-use Rattle.question.proofs.Steps.{below-held, held-end}
+use Rattle.sound.specs.Tls.{held, held-end, below?}
+use Rattle.question.proofs.Steps.{below-held}
 use borrow.Author.Needs.{needs}
 use Rattle.question.proofs.tls.below_ok.Statement.{statement}
 use Rattle.question.proofs.tls.below_ok.Tie as tie

@@ -12,7 +12,7 @@ use Rattle.question.proofs.tls.tls_ok.Reads as reads
 use Rattle.question.proofs.tls.tls_ok.Lts as lts
 use Rattle.question.proofs.tls.below_ok.Reads as below-ok-reads
 use Rattle.question.proofs.tls.once_ok.Reads as once-ok-reads
-use Rattle.question.proofs.tls.tally_tls.Reads as tally-tls-reads
+use Rattle.tally.proofs.tally_tls.Reads as tally-tls-reads
 
 returns : tie.Need-returns
 unfolding tls?

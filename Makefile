@@ -1,0 +1,74 @@
+# make             prove and write the static library, then run the C tests of its exports
+# make test        prove everything, then all C tests that need no original
+# make differential, flips, bench      need cargo and ORIGINAL, a copy of the original's source
+CC = gcc
+CFLAGS = -std=c11 -O2 -Wall -Wextra -Iinclude
+
+# the folder that holds crates/zakuro-core and crates/zakuro-cpu of the original
+ORIGINAL = ../shared/docs/src
+# the first sequence, how many of them, and how many blocks are flipped
+SEED = 1
+COUNT = 200
+BLOCKS = 8
+
+# another library may be given in place of the proved one
+PROVED = target/staticlib/libhost.a
+KERNEL_LIB = $(PROVED)
+
+C = target/c
+DRIVER = oracle/target/debug/driver
+HOST = host check lent fresh_block fresh_start next_event
+FLIPS = flips rules fresh_block
+
+all: host-test
+
+test:
+	rt check
+	$(MAKE) host-test flip-fresh
+
+staticlib:
+	rt staticlib host
+
+$(PROVED): staticlib
+
+host-test: $(C)/host
+	sh tests/exports.sh $(KERNEL_LIB)
+	$(C)/host
+
+# only the fresh block, which needs no file
+flip-fresh: $(C)/flips
+	$(C)/flips
+
+flips: $(C)/flips blocks
+	$(C)/flips target/blocks/*.block
+
+bench: $(C)/bench blocks
+	$(C)/bench target/blocks/full.block
+
+oracle: $(KERNEL_LIB)
+	ORIGINAL=$(abspath $(ORIGINAL)) sh oracle/scripts/copy-original.sh
+	KERNEL_LIB=$(abspath $(KERNEL_LIB)) cargo build --offline --manifest-path oracle/Cargo.toml --target-dir oracle/target -p oracle -p driver
+
+differential: oracle
+	$(DRIVER) compare --seed $(SEED) --count $(COUNT)
+
+blocks: oracle
+	$(DRIVER) blocks target/blocks $(BLOCKS)
+
+$(C)/host: $(HOST:%=$(C)/obj/tests/%.o) $(KERNEL_LIB)
+	$(CC) -o $@ $^
+
+$(C)/flips: $(FLIPS:%=$(C)/obj/tests/%.o) $(KERNEL_LIB)
+	$(CC) -o $@ $^
+
+$(C)/bench: $(C)/obj/bench/bench.o $(C)/obj/bench/stack.o $(KERNEL_LIB)
+	$(CC) -o $@ $^
+
+$(C)/obj/%.o: %.c $(wildcard include/*.h tests/*.h bench/*.h)
+	@mkdir -p $(@D)
+	$(CC) $(CFLAGS) -c -o $@ $<
+
+clean:
+	rm -rf target oracle/target
+
+.PHONY: all test staticlib host-test flip-fresh flips bench oracle differential blocks clean

@@ -1,0 +1,108 @@
+/*
+ * Times every export on a fresh block and on a full one beside a plain copy of 16,384 bytes, and measures the stack
+ * that each takes. Usage: bench FULL-BLOCK-FILE
+ */
+#define _GNU_SOURCE
+#include "kernel.h"
+#include "stack.h"
+
+#include <stdio.h>
+#include <stdlib.h>
+#include <string.h>
+#include <time.h>
+
+static uint8_t original[KERNEL_BLOCK_LEN], block[KERNEL_BLOCK_LEN], bank[KERNEL_BANK_LEN], answer[64];
+
+static uint32_t fresh_start(void) { return kernel_fresh_start(block, sizeof block, bank, sizeof bank, 0x10); }
+static uint32_t next_event(void) { return kernel_next_event(block, sizeof block, answer, KERNEL_NEXT_EVENT_LEN); }
+
+/* `changes`: the block has to be put back before each call. */
+static const struct export { const char *name; uint32_t (*call)(void); int changes; } exports[] = {
+    {"kernel_fresh_start", fresh_start, 1},
+    {"kernel_next_event", next_event, 0},
+};
+
+/* Seen by the compiler as a reader and writer of all memory, so that no copy is left out. */
+static void copy(void)
+{
+    memcpy(block, original, sizeof block);
+    __asm__ volatile("" ::: "memory");
+}
+
+static const struct export *timed;
+
+static void copy_and_call(void)
+{
+    if (timed->changes)
+        copy();
+    uint32_t number = timed->call();
+    if (number != KERNEL_DONE) {
+        fprintf(stderr, "%s: answer %u\n", timed->name, number);
+        exit(1);
+    }
+}
+
+static double now(void)
+{
+    struct timespec t;
+    clock_gettime(CLOCK_MONOTONIC, &t);
+    return (double)t.tv_sec * 1e6 + (double)t.tv_nsec / 1e3;
+}
+
+static int by_value(const void *a, const void *b)
+{
+    double x = *(const double *)a, y = *(const double *)b;
+    return (x > y) - (x < y);
+}
+
+/* Microseconds a call: the median of several batches, each long enough for the clock. */
+static double microseconds(void (*run)(void))
+{
+    enum { BATCHES = 21 };
+    double times[BATCHES];
+    long calls = 1;
+    for (double t = 0; t < 2000; calls *= 2) {
+        t = now();
+        for (long i = 0; i < calls; i++)
+            run();
+        t = now() - t;
+    }
+    for (int k = 0; k < BATCHES; k++) {
+        double t = now();
+        for (long i = 0; i < calls; i++)
+            run();
+        times[k] = (now() - t) / (double)calls;
+    }
+    qsort(times, BATCHES, sizeof *times, by_value);
+    return times[BATCHES / 2];
+}
+
+static void measure(const char *what)
+{
+    double one_copy = microseconds(copy);
+    printf("%-20s %-6s %10.3f us %8.1f copies\n", "copy", what, one_copy, 1.0);
+    for (size_t i = 0; i < sizeof exports / sizeof *exports; i++) {
+        timed = &exports[i];
+        copy();
+        double us = microseconds(copy_and_call) - (timed->changes ? one_copy : 0);
+        copy();
+        size_t stack = stack_used(copy_and_call);
+        printf("%-20s %-6s %10.3f us %8.1f copies %10zu bytes of stack\n", timed->name, what, us, us / one_copy, stack);
+    }
+}
+
+int main(int argc, char **argv)
+{
+    FILE *in = argc == 2 ? fopen(argv[1], "rb") : NULL;
+    static uint8_t full[KERNEL_BLOCK_LEN];
+    if (!in || fread(full, 1, sizeof full, in) != sizeof full) {
+        fprintf(stderr, "usage: bench FULL-BLOCK-FILE\n");
+        return 2;
+    }
+    fclose(in);
+    kernel_fresh_start(original, sizeof original, bank, sizeof bank, 0x10);
+    measure("fresh");
+    memcpy(original, full, sizeof original);
+    measure("full");
+    return 0;
+}

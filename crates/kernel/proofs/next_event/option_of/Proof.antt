@@ -1,0 +1,16 @@
+use mathlib.Core.Path.{_≡_, refl, ap, sym, _∙_}
+use borrow.Author.Tests.{lt-ltb, le-ltb, eq-eqb, ne-eqb, not-true, not-false}
+use borrow.Author.Needs.{needs}
+use Rattle.kernel.proofs.next_event.option_of.Statement.{statement}
+use Rattle.kernel.proofs.next_event.option_of.Tie as tie
+use Rattle.kernel.proofs.next_event.option_of.Reads as reads
+use Rattle.kernel.proofs.next_event.option_of.Lts as lts
+
+returns : tie.Need-returns
+returns c = rw (eq-eqb _ 0 (c .if1 .taken))
+
+returns-2 : tie.Need-returns-2
+returns-2 c = rw (ne-eqb _ 0 (c .if1 .left))
+
+pub option-of-spec : {M : Type 1} → statement M
+option-of-spec = tie.close (tie.spec returns returns-2)

@@ -1,0 +1,2 @@
+-- The laws that the proofs of `tally` cite.
+pub mod Held

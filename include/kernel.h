@@ -1,0 +1,51 @@
+/*
+ * The thread kernel for hosts in C and C++.
+ *
+ * A lent slice is a pointer and a length in bytes; slices lent to one call must not overlap, and one call
+ * runs at a time. docs/STATE.md has the layout of every slice. Each function returns one number: KERNEL_DONE,
+ * a kernel answer, or a refusal. After a refusal every lent byte is as it was.
+ */
+#ifndef KERNEL_H
+#define KERNEL_H
+
+#include <stddef.h>
+#include <stdint.h>
+
+#ifdef __cplusplus
+extern "C" {
+#endif
+
+/* Lengths in bytes. Any other length is refused with KERNEL_LENGTH. */
+#define KERNEL_BLOCK_LEN 16384u
+#define KERNEL_CONTEXT_LEN 208u /* 52 words: the processor, or a thread's row of the bank */
+#define KERNEL_PROCESSOR_LEN KERNEL_CONTEXT_LEN
+#define KERNEL_BANK_LEN (32u * KERNEL_CONTEXT_LEN)
+
+/* Lengths of the answer slices. */
+#define KERNEL_NEXT_EVENT_LEN 16u
+
+/* Accepted. */
+#define KERNEL_DONE 0u
+
+/* Refusals, in the order in which they are looked for. */
+#define KERNEL_LENGTH 1u    /* a length, or the guest window's end, is wrong */
+#define KERNEL_UNSOUND 2u   /* the state block is not sound */
+#define KERNEL_UNKNOWN 3u   /* no such operation */
+#define KERNEL_NO_THREAD 4u /* no current thread that runs, or no such live thread */
+#define KERNEL_LIST 5u      /* too many handles in one wait */
+#define KERNEL_ADDRESS 6u   /* a guest word outside the window, or not aligned */
+#define KERNEL_FULL 7u      /* a holding would not fit */
+#define KERNEL_OVERFLOW 8u  /* a number would not fit, or the handles are used up */
+
+/* Makes the block a fresh one that keeps status_word as the default status word, and zeroes the bank. */
+uint32_t kernel_fresh_start(uint8_t *block, size_t block_len, uint8_t *bank, size_t bank_len, uint32_t status_word);
+
+/* The earliest tick at which a blocked thread or a timer wants a pass: word 1 if there is one and 0 if not,
+   word 0, then the tick in 8 bytes, 0 if there is none. */
+uint32_t kernel_next_event(const uint8_t *block, size_t block_len, uint8_t *answer, size_t answer_len);
+
+#ifdef __cplusplus
+}
+#endif
+
+#endif

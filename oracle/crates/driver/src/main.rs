@@ -1,0 +1,45 @@
+//! runs the port's static library beside the oracle, see README.md.
+mod blocks;
+mod bytes;
+mod codec;
+mod compare;
+mod damage;
+mod lent;
+mod port;
+mod question;
+mod rich;
+mod state;
+
+use oracle::gen::PROFILES;
+use std::process::ExitCode;
+
+const USAGE: &str = "usage: driver compare [--seed S] [--count N] [--profile P] | driver blocks DIR N";
+
+fn named(args: &[String], name: &str) -> Option<String> { args.iter().position(|a| a == name).and_then(|i| args.get(i + 1).cloned()) }
+
+fn run(args: &[String]) -> Result<bool, String> {
+    match args.first().map(|s| s.as_str()) {
+        Some("compare") => {
+            let number = |name: &str| named(args, name).map_or(Ok(1), |v| v.parse::<u64>().map_err(|e| format!("{name}: {e}")));
+            let profile = named(args, "--profile").map(|p| PROFILES.iter().position(|x| *x == p).ok_or(format!("no profile {p}"))).transpose()?;
+            oracle::quiet_panics();
+            let figures = compare::compare(number("--seed")?, number("--count")?, profile);
+            figures.print();
+            Ok(figures.differing == 0)
+        }
+        Some("blocks") => {
+            let (dir, count) = (args.get(1).ok_or(USAGE)?, args.get(2).and_then(|n| n.parse().ok()).ok_or(USAGE)?);
+            blocks::blocks(dir.as_ref(), count).map_err(|e| e.to_string())?;
+            Ok(true)
+        }
+        _ => Err(USAGE.into()),
+    }
+}
+
+fn main() -> ExitCode {
+    match run(&std::env::args().skip(1).collect::<Vec<_>>()) {
+        Ok(true) => ExitCode::SUCCESS,
+        Ok(false) => ExitCode::from(1),
+        Err(e) => { eprintln!("{e}"); ExitCode::from(2) }
+    }
+}

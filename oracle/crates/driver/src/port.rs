@@ -1,0 +1,62 @@
+//! the library's operations. One that the library gains gets its entry here; the rest of the driver goes by the list.
+use crate::lent::Lent;
+use oracle::gen::Rng;
+use oracle::{Op, Out};
+
+pub struct Operation {
+    pub name: &'static str,
+    /// length of the answer slice.
+    pub answer_len: usize,
+    /// needs only question 1, and zeroes the bank.
+    pub starts_fresh: bool,
+    /// changes nothing lent but the answer slice.
+    pub reads_only: bool,
+    pub is: fn(&Op) -> bool,
+    pub call: fn(&Op, &mut Lent, &mut [u8]) -> u32,
+    /// the answer slice for what the original gave.
+    pub answer: fn(&Out) -> Vec<u8>,
+    /// an operation to try on a copy of a state, beside those of the sequence.
+    pub try_on: fn(&mut Rng) -> Option<Op>,
+}
+
+pub const OPERATIONS: [Operation; 2] = [FRESH_START, NEXT_EVENT];
+
+pub fn operation(op: &Op) -> Option<&'static Operation> {
+    const LIST: &[Operation] = &OPERATIONS;
+    LIST.iter().find(|x| (x.is)(op))
+}
+
+extern "C" {
+    fn kernel_fresh_start(block: *mut u8, block_len: usize, bank: *mut u8, bank_len: usize, status_word: u32) -> u32;
+    fn kernel_next_event(block: *const u8, block_len: usize, answer: *mut u8, answer_len: usize) -> u32;
+}
+
+const FRESH_START: Operation = Operation {
+    name: "fresh",
+    answer_len: 0,
+    starts_fresh: true,
+    reads_only: false,
+    is: |op| matches!(op, Op::Fresh { .. }),
+    call: |op, lent, _| {
+        let Op::Fresh { status } = op else { unreachable!() };
+        unsafe { kernel_fresh_start(lent.block.as_mut_ptr(), lent.block.len(), lent.bank.as_mut_ptr(), lent.bank.len(), *status) }
+    },
+    answer: |_| vec![],
+    try_on: |r| r.pct(2).then(|| Op::Fresh { status: r.next() as u32 }),
+};
+
+const NEXT_EVENT: Operation = Operation {
+    name: "next_event",
+    answer_len: 16,
+    starts_fresh: false,
+    reads_only: true,
+    is: |op| matches!(op, Op::NextEvent),
+    call: |_, lent, answer| unsafe { kernel_next_event(lent.block.as_ptr(), lent.block.len(), answer.as_mut_ptr(), answer.len()) },
+    answer: |out| {
+        let Out::Tick(tick) = out else { unreachable!() };
+        let mut bytes = (tick.is_some() as u64).to_le_bytes().to_vec();
+        bytes.extend(tick.unwrap_or(0).to_le_bytes());
+        bytes
+    },
+    try_on: |_| Some(Op::NextEvent),
+};

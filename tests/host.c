@@ -1,0 +1,15 @@
+/* Calls every export of the static library as a host would, and as a careless one would. */
+#include "host.h"
+
+#include "check.h"
+
+#include <stdio.h>
+
+int main(void)
+{
+    /* what passed is to be seen even if a byte outside its bounds ends the program */
+    setvbuf(stdout, NULL, _IOLBF, 0);
+    test_fresh_start();
+    test_next_event();
+    return report();
+}

@@ -1,0 +1,8 @@
+/* One function for each export of the library. */
+#ifndef HOST_H
+#define HOST_H
+
+void test_fresh_start(void);
+void test_next_event(void);
+
+#endif
