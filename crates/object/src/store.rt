@@ -1,0 +1,174 @@
+// Objects come, are counted and go (ObjectStore of object.rs).
+use crate::slots;
+use crate::waiters;
+use types::object::KObject;
+use types::object::ObjectStore;
+use types::object::Slot;
+use units::ObjectId;
+ghost use mathlib.Core.Path.{_≡_};
+ghost use Prim.Native.Nat.{_+_, _-_, _<_, _≤_};
+ghost use lib.Dec.{ltb};
+ghost use lib.ListN.{length, take};
+ghost use Rattle.laws.specs.Logic.{pick};
+ghost use Rattle.sound.specs.View.{ids};
+ghost use Rattle.object.specs.Slots as parts;
+ghost use Rattle.object.specs.Store as def;
+
+pub fn refcount(s: ObjectStore, o: ObjectId) -> u32
+    ensures { λ r. ⌜ r ≡ def.refcount s (o .0) ⌝ }
+{
+    let old = slots::slot_at(s, o);
+    old.refcount
+}
+
+// The object changes what it holds.
+pub fn content(s: ObjectStore, o: ObjectId, v: KObject) -> ObjectStore
+    ensures { λ r. ⌜ r ≡ parts.content s (o .0) v ⌝ }
+{
+    let old = slots::slot_at(s, o);
+    slots::put_slot(
+        s,
+        o,
+        Slot {
+            object: v,
+            refcount: old.refcount,
+            pulsed: old.pulsed,
+        },
+    )
+}
+
+// A new object in the first free slot, with one holder.
+pub fn insert(s: ObjectStore, v: KObject) -> ObjectStore
+    ensures { λ r. ⌜ r ≡ def.insert s v ⌝ }
+{
+    let free = s.free;
+    let old = slots::slot_at(s, ObjectId(free));
+    let object = old.object;
+    let next = types::object::next_of(object);
+    let mut q = slots::put_slot(
+        s,
+        ObjectId(free),
+        Slot {
+            object: v,
+            refcount: 1,
+            pulsed: old.pulsed,
+        },
+    );
+    q.free = next;
+    if free == 0 {
+        q.full = true;
+        return q;
+    }
+    q
+}
+
+fn one_more(x: u32) -> u32
+    ensures { λ r. ⌜ r ≡ pick (ltb x 4294967295) (x + 1) x ⌝ }
+{
+    if x < 4294967295 {
+        return x + 1;
+    }
+    x
+}
+
+// One holder more; a dead slot is not counted.
+pub fn add_ref(s: ObjectStore, o: ObjectId) -> ObjectStore
+    ensures { λ r. ⌜ r ≡ def.addRef s (o .0) ⌝ }
+{
+    let old = slots::slot_at(s, o);
+    let object = old.object;
+    let kind = types::object::kind_number(object);
+    if kind == 0 {
+        return s;
+    }
+    slots::put_slot(
+        s,
+        o,
+        Slot {
+            object: object,
+            refcount: one_more(old.refcount),
+            pulsed: old.pulsed,
+        },
+    )
+}
+
+pub fn add_ref_list(s: ObjectStore, l: [ObjectId; 8], n: u32) -> ObjectStore
+    ensures { λ r. ⌜ r ≡ def.addRefs s (take n (ids l)) ⌝ }
+{
+    let mut q = s;
+    let mut i: usize = 0;
+    while i < 8 {
+        if n <= i as u32 {
+            return q;
+        }
+        let o = l[i];
+        q = add_ref(q, o);
+        i += 1;
+    }
+    q
+}
+
+// One holder less; with the last the slot is free, and so are an arbiter's records.
+// A dead slot has no holder to lose.
+pub fn release(s: ObjectStore, o: ObjectId) -> ObjectStore
+    ensures { λ r. ⌜ r ≡ def.release s (o .0) ⌝ }
+{
+    let old = slots::slot_at(s, o);
+    let object = old.object;
+    let kind = types::object::kind_number(object);
+    if kind == 0 {
+        return s;
+    }
+    let n = old.refcount;
+    if 2 <= n {
+        return slots::put_slot(
+            s,
+            o,
+            Slot {
+                object: object,
+                refcount: n - 1,
+                pulsed: old.pulsed,
+            },
+        );
+    }
+    let ws = s.waiters;
+    let every = [1u32; 1];
+    let u = waiters::unlink(
+        ws,
+        &every,
+        1,
+        types::object::head_of(object),
+        64,
+        s.free_waiter,
+    );
+    let l = u.waiters;
+    let mut q = slots::put_slot(
+        s,
+        o,
+        Slot {
+            object: KObject::Free(s.free),
+            refcount: 0,
+            pulsed: old.pulsed,
+        },
+    );
+    q.free = o.0;
+    q.waiters = l;
+    q.free_waiter = u.free;
+    q
+}
+
+pub fn release_list(s: ObjectStore, l: [ObjectId; 8], n: u32) -> ObjectStore
+    ensures { λ r. ⌜ r ≡ def.releases s (take n (ids l)) ⌝ }
+{
+    let mut q = s;
+    let mut i: usize = 0;
+    while i < 8 {
+        if n <= i as u32 {
+            return q;
+        }
+        let o = l[i];
+        q = release(q, o);
+        i += 1;
+    }
+    q
+}

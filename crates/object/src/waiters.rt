@@ -1,0 +1,358 @@
+// The records of address arbiters, numbered from 1: a chain each, and the free one.
+// Chains are walked by recursion with a falling allowance, so that a damaged chain ends too.
+use crate::slots;
+use types::object::KObject;
+use types::object::ObjectStore;
+use types::object::Slot;
+use types::object::Waiter;
+use types::sync::AddressArbiter;
+use units::ObjectId;
+ghost use mathlib.Core.Path.{_≡_};
+ghost use mathlib.Core.Bool.{not};
+ghost use mathlib.Core.List.{_∷_};
+ghost use Prim.Native.Nat.{_+_, _-_, _<_, _≤_};
+ghost use lib.Dec.{eqb};
+ghost use lib.ListN.{length, getD};
+ghost use Rattle.laws.specs.Logic.{pick, _or_};
+ghost use Rattle.laws.specs.Walk.{walk};
+ghost use Rattle.sound.specs.View.{waiterNexts, waiterThreads, waiterAddresses};
+ghost use Rattle.sound.specs.Records as chains;
+ghost use Rattle.object.specs.Slots.{withObject};
+ghost use Rattle.object.specs.Waiters as def;
+
+// The records, the first free one, and the first that a chain keeps.
+pub struct Links {
+    pub waiters: [Waiter; 64],
+    pub free: u32,
+    pub head: u32,
+}
+
+fn waiter_at(ws: [Waiter; 64], x: u32) -> Waiter
+    ensures { λ r. ⌜ r ≡ def.waiterAt ws x ⌝ }
+{
+    if x == 0 {
+        return Waiter {
+            thread: 0,
+            address: 0,
+            next: 0,
+        };
+    }
+    if 64 < x {
+        return Waiter {
+            thread: 0,
+            address: 0,
+            next: 0,
+        };
+    }
+    let i = (x - 1) as usize;
+    ws[i]
+}
+
+fn put_waiter(ws: [Waiter; 64], x: u32, w: Waiter) -> [Waiter; 64]
+    ensures { λ r. ⌜ r ≡ def.waiterPut ws x w ⌝ }
+{
+    if x == 0 {
+        return ws;
+    }
+    if 64 < x {
+        return ws;
+    }
+    let i = (x - 1) as usize;
+    let mut l = ws;
+    l[i] = w;
+    l
+}
+
+// The record x goes in front of what is kept, or of the free chain.
+fn link(keep: bool, x: u32, u: Links) -> Links
+    ensures { λ r. ⌜ r ≡ def.link keep x u ⌝ }
+{
+    let ws = u.waiters;
+    if keep {
+        let w = waiter_at(ws, x);
+        let l = put_waiter(
+            ws,
+            x,
+            Waiter {
+                thread: w.thread,
+                address: w.address,
+                next: u.head,
+            },
+        );
+        return Links {
+            waiters: l,
+            free: u.free,
+            head: x,
+        };
+    }
+    let l = put_waiter(
+        ws,
+        x,
+        Waiter {
+            thread: 0,
+            address: 0,
+            next: u.free,
+        },
+    );
+    Links {
+        waiters: l,
+        free: x,
+        head: u.head,
+    }
+}
+
+// Whether the record x is not marked; one past the marks has the mark past.
+fn unmarked(gone: &[u32], past: u32, x: u32) -> bool
+    ensures { λ r. ⌜ r ≡ eqb (getD (now (gone .entry)) x past) 0 ⌝ }
+{
+    let i = x as usize;
+    if gone.len() <= i {
+        return past == 0;
+    }
+    gone[i] == 0
+}
+
+// The chain from at without the marked records, which are free again.
+pub fn unlink(ws: [Waiter; 64], gone: &[u32], past: u32, at: u32, left: u32, free: u32) -> Links
+    ensures { λ r. ⌜ r ≡ def.unlink (λ x. eqb (getD (now (gone .entry)) x past) 0) ws free (walk (waiterNexts ws) left at) ⌝ }
+{
+    if at == 0 {
+        return Links {
+            waiters: ws,
+            free: free,
+            head: 0,
+        };
+    }
+    if left == 0 {
+        return Links {
+            waiters: ws,
+            free: free,
+            head: 0,
+        };
+    }
+    let w = waiter_at(ws, at);
+    let u = unlink(ws, gone, past, w.next, left - 1, free);
+    link(unmarked(gone, past, at), at, u)
+}
+
+// The chain from at without the records of thread t, which are free again.
+fn unlink_thread(ws: [Waiter; 64], t: u32, at: u32, left: u32, free: u32) -> Links
+    ensures { λ r. ⌜ r ≡ def.unlink (λ x. not (eqb (def.waiterAt ws x .thread) t)) ws free (walk (waiterNexts ws) left at) ⌝ }
+{
+    if at == 0 {
+        return Links {
+            waiters: ws,
+            free: free,
+            head: 0,
+        };
+    }
+    if left == 0 {
+        return Links {
+            waiters: ws,
+            free: free,
+            head: 0,
+        };
+    }
+    let w = waiter_at(ws, at);
+    let u = unlink_thread(ws, t, w.next, left - 1, free);
+    link(w.thread != t, at, u)
+}
+
+// Only an arbiter has a chain.
+fn with_head(o: KObject, h: u32) -> KObject
+    ensures { λ r. ⌜ r ≡ def.withHead o h ⌝ }
+{
+    match o {
+        KObject::Free(n) => KObject::Free(n),
+        KObject::Thread(t) => KObject::Thread(t),
+        KObject::Event(e) => KObject::Event(e),
+        KObject::Mutex(m) => KObject::Mutex(m),
+        KObject::Semaphore(s) => KObject::Semaphore(s),
+        KObject::Timer(t) => KObject::Timer(t),
+        KObject::AddressArbiter(_a) => KObject::AddressArbiter(AddressArbiter { waiters: h }),
+        KObject::Process => KObject::Process,
+        KObject::ResourceLimit => KObject::ResourceLimit,
+    }
+}
+
+fn is_arbiter(o: KObject) -> bool
+    ensures { λ r. ⌜ r ≡ def.isArbiter o ⌝ }
+{
+    match o {
+        KObject::Free(_n) => false,
+        KObject::Thread(_t) => false,
+        KObject::Event(_e) => false,
+        KObject::Mutex(_m) => false,
+        KObject::Semaphore(_s) => false,
+        KObject::Timer(_t) => false,
+        KObject::AddressArbiter(_a) => true,
+        KObject::Process => false,
+        KObject::ResourceLimit => false,
+    }
+}
+
+fn headed(s: Slot, h: u32) -> Slot
+    ensures { λ r. ⌜ r ≡ withObject s (def.withHead (s .object) h) ⌝ }
+{
+    let o = s.object;
+    let x = with_head(o, h);
+    Slot {
+        object: x,
+        refcount: s.refcount,
+        pulsed: s.pulsed,
+    }
+}
+
+// Every marked record of the object is taken out; gone has a mark for each number from 0, and 0 is no mark.
+pub fn retain_marked(s: ObjectStore, o: ObjectId, gone: &[u32]) -> ObjectStore
+    ensures { λ r. ⌜ r ≡ def.retain (λ x. eqb (getD (now (gone .entry)) x 0) 0) s (o .0) ⌝ }
+{
+    let old = slots::slot_at(s, o);
+    let object = old.object;
+    let ws = s.waiters;
+    let u = unlink(
+        ws,
+        gone,
+        0,
+        types::object::head_of(object),
+        64,
+        s.free_waiter,
+    );
+    let l = u.waiters;
+    let mut q = slots::put_slot(s, o, headed(old, u.head));
+    q.waiters = l;
+    q.free_waiter = u.free;
+    q
+}
+
+// All records of a thread, in every arbiter.
+pub fn drop_thread(s: ObjectStore, t: u32) -> ObjectStore
+    ensures { λ r. ⌜ r ≡ def.dropThread 128 1 t s ⌝ }
+{
+    let mut l = s.slots;
+    let mut ws = s.waiters;
+    let mut free = s.free_waiter;
+    let mut i: usize = 0;
+    while i < 128 {
+        let old = l[i];
+        let object = old.object;
+        let head = types::object::head_of(object);
+        if head != 0 {
+            let u = unlink_thread(ws, t, head, 64, free);
+            l[i] = headed(old, u.head);
+            ws = u.waiters;
+            free = u.free;
+        }
+        i += 1;
+    }
+    let mut q = s;
+    q.slots = l;
+    q.waiters = ws;
+    q.free_waiter = free;
+    q
+}
+
+// Whether a record of the chain from at is that of thread t and address a.
+fn has_record(ws: [Waiter; 64], t: u32, a: u32, at: u32, left: u32) -> bool
+    ensures { λ r. ⌜ r ≡ chains.has? (waiterThreads ws) (waiterAddresses ws) t a (walk (waiterNexts ws) left at) ⌝ }
+{
+    if at == 0 {
+        return false;
+    }
+    if left == 0 {
+        return false;
+    }
+    let w = waiter_at(ws, at);
+    if w.thread == t {
+        if w.address == a {
+            return true;
+        }
+    }
+    has_record(ws, t, a, w.next, left - 1)
+}
+
+// The last record of the chain from at, or the prior one if the chain has none.
+fn last_of(ws: [Waiter; 64], prior: u32, at: u32, left: u32) -> u32
+    ensures { λ r. ⌜ r ≡ def.lastOf (prior ∷ walk (waiterNexts ws) left at) ⌝ }
+{
+    if at == 0 {
+        return prior;
+    }
+    if left == 0 {
+        return prior;
+    }
+    let w = waiter_at(ws, at);
+    last_of(ws, at, w.next, left - 1)
+}
+
+fn first_of(head: u32, r: u32) -> u32
+    ensures { λ x. ⌜ x ≡ pick (eqb head 0) r head ⌝ }
+{
+    if head == 0 {
+        return r;
+    }
+    head
+}
+
+// The record r hung on that before it.
+fn hang(ws: [Waiter; 64], last: u32, r: u32, w: Waiter) -> [Waiter; 64]
+    ensures { λ l. ⌜ l ≡ def.waiterPut (def.waiterPut ws last (def.withNext (def.waiterAt ws last) r)) r w ⌝ }
+{
+    let old = waiter_at(ws, last);
+    let l = put_waiter(
+        ws,
+        last,
+        Waiter {
+            thread: old.thread,
+            address: old.address,
+            next: r,
+        },
+    );
+    put_waiter(l, r, w)
+}
+
+fn pushed(s: ObjectStore, o: ObjectId, t: u32, a: u32) -> ObjectStore
+    ensures { λ r. ⌜ r ≡ def.pushed s (o .0) t a ⌝ }
+{
+    let old = slots::slot_at(s, o);
+    let object = old.object;
+    let ws = s.waiters;
+    let r = s.free_waiter;
+    let head = types::object::head_of(object);
+    let last = last_of(ws, 0, head, 64);
+    let unused = waiter_at(ws, r);
+    let l = hang(
+        ws,
+        last,
+        r,
+        Waiter {
+            thread: t,
+            address: a,
+            next: 0,
+        },
+    );
+    let mut q = slots::put_slot(s, o, headed(old, first_of(head, r)));
+    q.waiters = l;
+    q.free_waiter = unused.next;
+    if r == 0 {
+        q.full = true;
+        return q;
+    }
+    q
+}
+
+// A record more at the end of an arbiter's chain; a thread's second one for one address is not stored.
+pub fn push(s: ObjectStore, o: ObjectId, t: u32, a: u32) -> ObjectStore
+    ensures { λ r. ⌜ r ≡ def.push s (o .0) t a ⌝ }
+{
+    let old = slots::slot_at(s, o);
+    let object = old.object;
+    if !is_arbiter(object) {
+        return s;
+    }
+    let ws = s.waiters;
+    if has_record(ws, t, a, types::object::head_of(object), 64) {
+        return s;
+    }
+    pushed(s, o, t, a)
+}

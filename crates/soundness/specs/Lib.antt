@@ -1,0 +1,21 @@
+-- Each primitive keeps a state sound.
+pub mod Slots
+pub mod Unlink
+pub mod Waiters
+pub mod Chains
+pub mod Pushed
+pub mod Objects
+pub mod Same
+pub mod Kept
+pub mod Records
+pub mod Handles
+pub mod Names
+pub mod Waits
+pub mod Fine
+pub mod Each
+pub mod Fits
+pub mod Whole
+pub mod Tls
+pub mod Threads
+pub mod Creates
+pub mod Ends

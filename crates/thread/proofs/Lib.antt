@@ -1,0 +1,2 @@
+-- The laws that the proofs of `thread` cite.
+pub mod Steps

@@ -1,0 +1,91 @@
+-- One turn of each loop. Assumes nothing.
+use mathlib.Core.Path.{_≡_, refl, ap}
+use mathlib.Core.Bool.{Bool, true, false}
+use mathlib.Core.List.{List, [], _∷_, map}
+use Prim.Native.Nat.{ℕ, zero, suc, _+_, _-_, _≤_, _<_}
+use native.Mathlib.Omega.{arith}
+use lib.Dec.{eqb, ltb}
+use borrow.Author.Tests.{ltb-true}
+use lib.ListN.{length, getD, set, List·getD-eq-default}
+use Rattle.laws.specs.Logic.{pick}
+use Rattle.laws.specs.Count.{count}
+use Rattle.units.specs.declared.ObjectId.{ObjectId}
+use Rattle.types.specs.declared.thread.Thread.{Thread}
+use Rattle.types.specs.declared.object.Slot.{Slot}
+use Rattle.sound.specs.View.{threadAt, noSlot, noThread}
+use Rattle.object.specs.Store.{releases}
+use Rattle.types.specs.declared.object.ObjectStore.{ObjectStore}
+use Rattle.types.specs.declared.kernel.Kernel.{Kernel}
+use Rattle.sound.specs.Tls.{held}
+use Rattle.thread.specs.Threads.{least, freeFrom, tlsSlot, releaseWaits}
+use Rattle.thread.specs.Marks.{freeMarked, slotIndex, ended?, idAt, endedIn}
+
+pub free-step : (m : List ℕ) (n i : ℕ) → i < n → freeMarked m (n - i) i ≡ pick (eqb (getD m i 0) 0) i (freeMarked m (n - (i + 1)) (i + 1))
+unfolding freeMarked
+free-step m n i h = let e : n - i ≡ suc (n - (i + 1)) = omega arith in rw e
+
+pub free-end : (m : List ℕ) (n i : ℕ) → n ≤ i → freeMarked m (n - i) i ≡ i
+unfolding freeMarked
+free-end m n i h = let e : n - i ≡ 0 = omega arith in rw e
+
+module _ (ts : List Thread) (kept : List ObjectId) (slots : List Slot) where
+  pub ended-step : (n i : ℕ) → i < n
+      → endedIn ts kept slots (n - i) i ≡ pick (ended? (threadAt ts i) (idAt kept i) (getD slots (slotIndex (idAt kept i)) noSlot)) i (endedIn ts kept slots (n - (i + 1)) (i + 1))
+  unfolding endedIn
+  ended-step n i h = let e : n - i ≡ suc (n - (i + 1)) = omega arith in rw e
+
+  pub ended-end : (n i : ℕ) → n ≤ i → endedIn ts kept slots (n - i) i ≡ i
+  unfolding endedIn
+  ended-end n i h = let e : n - i ≡ 0 = omega arith in rw e
+
+pub least-le : (a b : ℕ) → least a b ≤ b
+least-le a b = go (ltb a b) refl
+  where
+    go : (t : Bool) → ltb a b ≡ t → pick t a b ≤ b
+    go true e = omega (arith, ltb-true a b e)
+    go false e = omega arith
+
+-- the first i cells of a list changed by f
+unfoldable pub mapTo : {A : Type 0} → (A → A) → ℕ → List A → List A
+mapTo f zero l = l
+mapTo f (suc i) [] = []
+mapTo f (suc i) (x ∷ xs) = f x ∷ mapTo f i xs
+
+pub mapTo-step : {A : Type 0} (f : A → A) (d : A) (l : List A) (i : ℕ) → i < length l → set (mapTo f i l) i (f (getD (mapTo f i l) i d)) ≡ mapTo f (suc i) l
+unfolding mapTo
+mapTo-step f d [] i h = absurd (omega arith)
+mapTo-step f d (x ∷ xs) zero h = refl
+mapTo-step f d (x ∷ xs) (suc i) h = ap (λ z. f x ∷ z) (mapTo-step f d xs i (omega arith))
+
+pub mapTo-none : {A : Type 0} (f : A → A) (l : List A) → mapTo f 0 l ≡ l
+unfolding mapTo
+mapTo-none f l = refl
+
+mapTo-all : {A : Type 0} (f : A → A) (l : List A) → mapTo f (length l) l ≡ map f l
+unfolding mapTo
+mapTo-all f [] = refl
+mapTo-all f (x ∷ xs) = ap (λ z. f x ∷ z) (mapTo-all f xs)
+
+pub mapTo-full : {A : Type 0} (f : A → A) (l : List A) (n : ℕ) → length l ≡ n → mapTo f n l ≡ map f l
+mapTo-full f l n e = rw (← e) (mapTo-all f l)
+
+-- a slot that is looked for lies below the bound, or is the bound
+pick-le : (b : Bool) (s x n : ℕ) → s ≤ n → x ≤ n → pick b s x ≤ n
+pick-le true s x n h k = h
+pick-le false s x n h k = k
+
+free-le : (l : List ℕ) (n s : ℕ) → freeFrom l n s ≤ s + n
+unfolding freeFrom
+free-le l zero s = omega arith
+free-le l (suc n) s = pick-le (eqb (count s l) 0) s (freeFrom l n (s + 1)) (s + suc n) (omega arith) (omega (arith, free-le l n (s + 1)))
+
+pub tls-le : (k : Kernel) → tlsSlot k ≤ 32
+unfolding tlsSlot
+tls-le k = omega (arith, free-le (held (k .threads)) (least (k .«next_tls_slot») 32) 0, least-le (k .«next_tls_slot») 32)
+
+-- a number past the places has no list
+pub waits-far : (s : ObjectStore) (ts : List Thread) (t : ℕ) → length ts ≤ t → releaseWaits s ts t ≡ s
+unfolding releases
+waits-far s ts t h =
+    let e : threadAt ts t ≡ noThread = List·getD-eq-default ts noThread h in
+    rw e

@@ -1,0 +1,18 @@
+use borrow.Author.Needs.{needs}
+use Rattle.thread.proofs.end.disowned_mutex.Statement.{statement}
+use Rattle.thread.proofs.end.disowned_mutex.Tie as tie
+use Rattle.thread.proofs.end.disowned_mutex.Reads as reads
+use Rattle.thread.proofs.end.disowned_mutex.Lts as lts
+use Rattle.thread.proofs.end.is_current.Reads as is-current-reads
+
+is-current-requires : tie.Need-is-current-requires
+is-current-requires c κs = search needs
+
+returns : tie.Need-returns
+returns c = rw (← c .before .is-current .ensures, c .if1 .taken)
+
+returns-2 : tie.Need-returns-2
+returns-2 c = rw (← c .before .is-current .ensures, c .if1 .left)
+
+pub disowned-mutex-spec : {M : Type 1} → statement M
+disowned-mutex-spec = tie.close (tie.spec is-current-requires returns returns-2)

@@ -1,0 +1,15 @@
+use borrow.Author.Tests.{lt-ltb, le-ltb, eq-eqb, ne-eqb, not-true, not-false}
+use borrow.Author.Needs.{needs}
+use Rattle.thread.proofs.places.least_of.Statement.{statement}
+use Rattle.thread.proofs.places.least_of.Tie as tie
+use Rattle.thread.proofs.places.least_of.Reads as reads
+use Rattle.thread.proofs.places.least_of.Lts as lts
+
+returns : tie.Need-returns
+returns c = rw (lt-ltb _ _ (c .if1 .taken))
+
+returns-2 : tie.Need-returns-2
+returns-2 c = rw (le-ltb _ _ (c .if1 .left))
+
+pub least-of-spec : {M : Type 1} → statement M
+least-of-spec = tie.close (tie.spec returns returns-2)

@@ -1,0 +1,184 @@
+// The end of a wait, and of a thread (`end_wait`, `end_thread`). A number past the places names no thread.
+use crate::thread;
+use object::store;
+use types::kernel::Kernel;
+use types::object::KObject;
+use types::object::ObjectStore;
+use types::object::Slot;
+use types::sync::Mutex;
+use types::thread::Thread;
+use types::thread::ThreadOption;
+use types::thread::ThreadStatus;
+use types::thread::WaitResult;
+use types::thread::WaitSyscall;
+ghost use mathlib.Core.Path.{_≡_};
+ghost use Prim.Native.Nat.{_+_, _-_, _<_, _≤_};
+ghost use lib.ListN.{length, set};
+ghost use Rattle.sound.specs.View.{threadAt};
+ghost use Rattle.sound.specs.Threads.{isCurrent};
+ghost use Rattle.object.specs.Slots.{withObject};
+ghost use Rattle.thread.specs.Thread.{clearWait};
+ghost use Rattle.thread.specs.Threads as def;
+
+fn put_cleared(ts: [Thread; 32], t: u32) -> [Thread; 32]
+    ensures { λ r. ⌜ r ≡ set ts t (clearWait (threadAt ts t)) ⌝ }
+{
+    if 32 <= t {
+        return ts;
+    }
+    let i = t as usize;
+    let mut l = ts;
+    l[i] = thread::clear_wait(l[i]);
+    l
+}
+
+// The objects of the thread's list are let go, in list order.
+fn release_waits(s: ObjectStore, ts: [Thread; 32], t: u32) -> ObjectStore
+    ensures { λ r. ⌜ r ≡ def.releaseWaits s ts t ⌝ }
+{
+    if 32 <= t {
+        return s;
+    }
+    let i = t as usize;
+    let old = ts[i];
+    let list = old.wait_objects;
+    store::release_list(s, list, old.wait_count)
+}
+
+pub fn end_wait(k: Kernel, t: u32) -> Kernel
+    ensures { λ r. ⌜ r ≡ def.endWait k t ⌝ }
+{
+    let ts = k.threads;
+    let before = k.objects;
+    let objects = release_waits(before, ts, t);
+    let threads = put_cleared(ts, t);
+    let mut q = k;
+    q.objects = objects;
+    q.threads = threads;
+    q
+}
+
+fn is_current(w: ThreadOption, t: u32) -> bool
+    ensures { λ r. ⌜ r ≡ isCurrent w t ⌝ }
+{
+    match w {
+        ThreadOption::NoThread => false,
+        ThreadOption::SomeThread(u) => u == t,
+    }
+}
+
+fn disowned_mutex(t: u32, m: Mutex) -> Mutex
+    ensures { λ r. ⌜ r ≡ def.disownedMutex t m ⌝ }
+{
+    let w = m.owner;
+    if is_current(w, t) {
+        return Mutex {
+            owner: ThreadOption::NoThread,
+            lock_count: 0,
+        };
+    }
+    m
+}
+
+fn disowned(t: u32, o: KObject) -> KObject
+    ensures { λ r. ⌜ r ≡ def.disowned t o ⌝ }
+{
+    match o {
+        KObject::Free(n) => KObject::Free(n),
+        KObject::Thread(u) => KObject::Thread(u),
+        KObject::Event(e) => KObject::Event(e),
+        KObject::Mutex(m) => KObject::Mutex(disowned_mutex(t, m)),
+        KObject::Semaphore(s) => KObject::Semaphore(s),
+        KObject::Timer(u) => KObject::Timer(u),
+        KObject::AddressArbiter(a) => KObject::AddressArbiter(a),
+        KObject::Process => KObject::Process,
+        KObject::ResourceLimit => KObject::ResourceLimit,
+    }
+}
+
+fn disowned_slot(t: u32, s: Slot) -> Slot
+    ensures { λ r. ⌜ r ≡ withObject s (def.disowned t (s .object)) ⌝ }
+{
+    let o = s.object;
+    let x = disowned(t, o);
+    Slot {
+        object: x,
+        refcount: s.refcount,
+        pulsed: s.pulsed,
+    }
+}
+
+fn disowned_slots(t: u32, slots: [Slot; 128]) -> [Slot; 128]
+    ensures { λ r. ⌜ r ≡ def.disownedSlots t slots ⌝ }
+{
+    let mut l = slots;
+    let mut i: usize = 0;
+    while i < 128 {
+        l[i] = disowned_slot(t, l[i]);
+        i += 1;
+    }
+    l
+}
+
+// Every mutex that the thread owns is given back, all the way down.
+fn disown(s: ObjectStore, t: u32) -> ObjectStore
+    ensures { λ r. ⌜ r ≡ def.disown s t ⌝ }
+{
+    let slots = s.slots;
+    let l = disowned_slots(t, slots);
+    let mut q = s;
+    q.slots = l;
+    q
+}
+
+fn left_by(w: ThreadOption, t: u32) -> ThreadOption
+    ensures { λ r. ⌜ r ≡ def.leftBy w t ⌝ }
+{
+    if is_current(w, t) {
+        return ThreadOption::NoThread;
+    }
+    w
+}
+
+fn put_dead(ts: [Thread; 32], t: u32) -> [Thread; 32]
+    ensures { λ r. ⌜ r ≡ set ts t (def.ended (threadAt ts t)) ⌝ }
+{
+    if 32 <= t {
+        return ts;
+    }
+    let i = t as usize;
+    let mut l = ts;
+    l[i] = thread::with_result(
+        thread::with_status(l[i], ThreadStatus::Dead),
+        WaitResult::NoResult,
+        WaitSyscall::NoSyscall,
+    );
+    l
+}
+
+pub fn end_thread(k: Kernel, t: u32) -> Kernel
+    ensures { λ r. ⌜ r ≡ def.endThread k t ⌝ }
+{
+    let w = end_wait(k, t);
+    let before = w.objects;
+    let objects = disown(before, t);
+    let old = w.threads;
+    let threads = put_dead(old, t);
+    let handles = w.handles;
+    let was = w.current_thread;
+    let current = left_by(was, t);
+    Kernel {
+        status_word: w.status_word,
+        objects: objects,
+        handles: handles,
+        threads: threads,
+        thread_count: w.thread_count,
+        current_thread: current,
+        next_tls_slot: w.next_tls_slot,
+        next_guest_id: w.next_guest_id,
+        all_blocked: w.all_blocked,
+        relief: w.relief,
+        full: w.full,
+        overflow: w.overflow,
+    }
+}
