@@ -16,10 +16,13 @@ static uint8_t original[KERNEL_BLOCK_LEN], block[KERNEL_BLOCK_LEN], bank[KERNEL_
 static uint32_t fresh_start(void) { return kernel_fresh_start(block, sizeof block, bank, sizeof bank, 0x10); }
 static uint32_t next_event(void) { return kernel_next_event(block, sizeof block, answer, KERNEL_NEXT_EVENT_LEN); }
 
+static uint32_t end_thread(void) { return kernel_end_thread(block, sizeof block, live); }
+
 /* `changes`: the block has to be put back before each call. */
 static const struct export { const char *name; uint32_t (*call)(void); int changes; } exports[] = {
     {"kernel_fresh_start", fresh_start, 1},
     {"kernel_next_event", next_event, 0},
+    {"kernel_end_thread", end_thread, 1},
 };
 
 /* Seen by the compiler as a reader and writer of all memory, so that no copy is left out. */

@@ -44,6 +44,10 @@ uint32_t kernel_fresh_start(uint8_t *block, size_t block_len, uint8_t *bank, siz
    word 0, then the tick in 8 bytes, 0 if there is none. */
 uint32_t kernel_next_event(const uint8_t *block, size_t block_len, uint8_t *answer, size_t answer_len);
 
+/* Ends a thread: its wait ends, its mutexes are given back, and it is not current any more. KERNEL_NO_THREAD if
+   there is no such thread or it is Dead. */
+uint32_t kernel_end_thread(uint8_t *block, size_t block_len, uint32_t thread);
+
 #ifdef __cplusplus
 }
 #endif

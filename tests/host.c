@@ -11,5 +11,6 @@ int main(void)
     setvbuf(stdout, NULL, _IOLBF, 0);
     test_fresh_start();
     test_next_event();
+    test_end_thread();
     return report();
 }

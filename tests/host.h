@@ -4,5 +4,6 @@
 
 void test_fresh_start(void);
 void test_next_event(void);
+void test_end_thread(void);
 
 #endif

@@ -5,8 +5,8 @@ use mathlib.Core.List.{List, [], _∷_}
 use Prim.Native.Nat.{ℕ}
 use Rattle.sound.specs.Question.{sound?}
 use Rattle.host.specs.Lent.{lent, accepted?}
-use Rattle.history.specs.Step.{Op, opFreshStart, opNextEvent, step, Entry, trace}
-use Rattle.history.specs.Keeps.{Kept, fresh-keeps, nextEvent-keeps}
+use Rattle.history.specs.Step.{Op, opFreshStart, opNextEvent, opEndThread, step, Entry, trace}
+use Rattle.history.specs.Keeps.{Kept, fresh-keeps, nextEvent-keeps, endThread-keeps}
 
 -- at every entry, with what comes after it
 abbrev pub Always : (Entry → List Entry → Type 0) → List Entry → Type 0
@@ -26,6 +26,9 @@ claim (opFreshStart bank u word h) b rest =
     record { keeps = k .sound; leaves = λ e. ap (λ l. l .block) (k .same e) }
 claim (opNextEvent answer u) b rest =
     let k = nextEvent-keeps (lent b [] [] [] answer) in
+    record { keeps = k .sound; leaves = λ e. ap (λ l. l .block) (k .same e) }
+claim (opEndThread thread h) b rest =
+    let k = endThread-keeps thread (lent b [] [] [] []) in
     record { keeps = k .sound; leaves = λ e. ap (λ l. l .block) (k .same e) }
 
 pub demand3 : (ops : List Op) (b : List ℕ) → Always Claim (trace ops b)

@@ -3,17 +3,23 @@ use mathlib.Core.Path.{_≡_, refl, sym, _∙_}
 use mathlib.Core.Bool.{Bool, true, false}
 use mathlib.Core.List.{List, []}
 use Prim.Native.Nat.{ℕ, _<_}
-use lib.Dec.{eqb, leb}
+use native.Mathlib.Omega.{arith}
+use lib.Dec.{eqb, leb, ltb}
+use borrow.Author.Tests.{eqb-true, eqb-false, ltb-true}
 use lib.ListN.{length, replicate}
 use Rattle.laws.specs.Logic.{pick, _and_, _or_, false-true}
 use Rattle.types.specs.declared.kernel.Kernel.{Kernel}
+use Rattle.types.specs.Thread.{isDead}
 use Rattle.block.specs.Block.{encBlock, decBlock}
-use Rattle.sound.specs.Question.{sound?, encoded-sound}
+use Rattle.sound.specs.View.{threadAt}
+use Rattle.sound.specs.Question.{sound?, t-block, encoded-sound}
 use Rattle.kernel.specs.Fresh.{fresh}
 use Rattle.kernel.specs.NextEvent as kernel
 use Rattle.kernel.proofs.FreshSound.{fresh-sound}
-use Rattle.host.specs.Lent.{Lent, lent, withAnswer, Back, back, accepted?}
-use Rattle.host.specs.Operations.{outOfHandles?, inspect, freshStart, tickBytes, nextEvent}
+use Rattle.thread.specs.Threads as thread
+use Rattle.soundness.specs.Ends.{endThread-sound}
+use Rattle.host.specs.Lent.{Lent, lent, withAnswer, withBlock, Back, back, accepted?}
+use Rattle.host.specs.Operations.{outOfHandles?, inspect, freshStart, tickBytes, nextEvent, finding, change, endRefusal, endThread}
 
 -- what holds of an operation on what was lent
 pub record Kept (l : Lent) (r : Back) : Type 0 where
@@ -48,3 +54,62 @@ fresh-keeps w h l = fresh-as w h l (eqb (length (l .block)) 16384 and eqb (lengt
 pub nextEvent-keeps : (l : Lent) → Kept l (nextEvent l)
 unfolding nextEvent
 nextEvent-keeps l = inspect-keeps (λ k. tickBytes (kernel.nextEvent k)) l (eqb (length (l .block)) 16384 and eqb (length (l .answer)) 16)
+
+-- ---- an operation that changes the block
+-- a refusal of its own is none of the accepted numbers
+abbrev pub Refusal : ℕ → Type 0
+Refusal n = (n ≡ 0 → ⊥) → accepted? n ≡ false
+
+refused : (l : Lent) (n : ℕ) → accepted? n ≡ false → Kept l (back n l)
+refused l n e = record { sound = λ h. false-true (sym e ∙ h); same = λ h. refl }
+
+finding-refusal : (k : Kernel) → Refusal (finding k)
+unfolding finding accepted? _or_
+finding-refusal k = go (k .full or (k .objects .full or k .handles .full)) (k .overflow or (k .objects .overflow or (k .handles .overflow or outOfHandles? k)))
+  where
+    go : (a b : Bool) → Refusal (pick a 7 (pick b 8 0))
+    go true b n = refl
+    go false true n = refl
+    go false false n = absurd (n refl)
+
+module _ (l : Lent) (own found : ℕ) (written : Lent) (a : Refusal own) (b : Refusal found) where
+  changed-as : (t s q r : Bool) → sound? (l .block) ≡ s → eqb own 0 ≡ q → eqb found 0 ≡ r → (s ≡ true → own ≡ 0 → found ≡ 0 → sound? (written .block) ≡ true)
+      → Kept l (pick t (pick s (pick q (pick r (back 0 written) (back found l)) (back own l)) (back 2 l)) (back 1 l))
+  unfolding accepted? _or_
+  changed-as true true true true e f g h = record { sound = λ z. h refl (eqb-true own 0 f) (eqb-true found 0 g); same = λ z. false-true (sym z) }
+  changed-as true true true false e f g h = refused l found (b (eqb-false found 0 g))
+  changed-as true true false r e f g h = refused l own (a (eqb-false own 0 f))
+  changed-as true false q r e f g h = record { sound = λ z. false-true z; same = λ z. refl }
+  changed-as false s q r e f g h = record { sound = λ z. false-true z; same = λ z. refl }
+
+pub change-keeps : (t : Bool) (refusal : Kernel → ℕ) (work : Kernel → Kernel) (written : Kernel → Lent) (l : Lent) → ((k : Kernel) → Refusal (refusal k))
+    → (sound? (l .block) ≡ true → refusal (decBlock (l .block)) ≡ 0 → finding (work (decBlock (l .block))) ≡ 0 → sound? (written (decBlock (l .block)) .block) ≡ true)
+    → Kept l (change t refusal work written l)
+unfolding change
+change-keeps t refusal work written l a h =
+    let k : Kernel = decBlock (l .block) in
+    changed-as l (refusal k) (finding (work k)) (written k) (a k) (finding-refusal (work k)) t (sound? (l .block)) (eqb (refusal k) 0) (eqb (finding (work k)) 0) refl refl refl h
+
+-- ---- a thread ends
+end-refusal : (t : ℕ) (k : Kernel) → Refusal (endRefusal t k)
+unfolding endRefusal accepted? _or_
+end-refusal t k = go (ltb t (k .«thread_count»)) (isDead (threadAt (k .threads) t .status))
+  where
+    go : (a b : Bool) → Refusal (pick a (pick b 4 0) 4)
+    go true true n = refl
+    go true false n = absurd (n refl)
+    go false b n = refl
+
+end-exists : (t : ℕ) (k : Kernel) → endRefusal t k ≡ 0 → t < k .«thread_count»
+unfolding endRefusal
+end-exists t k e = go (ltb t (k .«thread_count»)) refl e
+  where
+    go : (a : Bool) → ltb t (k .«thread_count») ≡ a → _≡_ {A = ℕ} (pick a (pick (isDead (threadAt (k .threads) t .status)) 4 0) 4) 0 → t < k .«thread_count»
+    go true f z = ltb-true t (k .«thread_count») f
+    go false f z = absurd (omega arith)
+
+pub endThread-keeps : (t : ℕ) (l : Lent) → Kept l (endThread t l)
+unfolding endThread
+endThread-keeps t l =
+    change-keeps (eqb (length (l .block)) 16384) (endRefusal t) (λ k. thread.endThread k t) (λ k. withBlock l (encBlock (thread.endThread k t))) l (end-refusal t)
+    (λ s r f. encoded-sound (thread.endThread (decBlock (l .block)) t) (endThread-sound (decBlock (l .block)) t (end-exists t (decBlock (l .block)) r) (t-block (l .block) .yes s .state)))

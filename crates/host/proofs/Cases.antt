@@ -1,16 +1,21 @@
--- An operation by the code's cases, one law a case for every operation that only looks. Assumes nothing.
-use mathlib.Core.Path.{_≡_, sym}
+-- An operation by the code's cases, one law a case for every operation of a sort. Assumes nothing.
+use mathlib.Core.Path.{_≡_, ap, sym}
 use mathlib.Core.Bool.{Bool, true, false}
 use mathlib.Core.List.{List}
-use Prim.Native.Nat.{ℕ}
+use Prim.Native.Nat.{ℕ, _≤_}
+use lib.ListN.{length, List·getD-eq-default}
+use borrow.Author.Tests.{eq-eqb, ne-eqb}
 use Rattle.laws.specs.Logic.{pick, _and_}
 use Rattle.codec.specs.Bytes.{same}
+use Rattle.types.specs.declared.thread.Thread.{Thread}
 use Rattle.types.specs.declared.kernel.Kernel.{Kernel}
+use Rattle.types.specs.Thread.{isDead}
 use Rattle.block.specs.Block.{encBlock, decBlock}
+use Rattle.sound.specs.View.{noThread, threadAt}
 use Rattle.sound.specs.Sound.{state?}
 use Rattle.sound.specs.Question.{sound?}
 use Rattle.host.specs.Lent.{Lent, withAnswer, back}
-use Rattle.host.specs.Operations.{outOfHandles?, inspect}
+use Rattle.host.specs.Operations.{outOfHandles?, inspect, finding, change}
 
 module _ (lengths : Bool) (look : Kernel → List ℕ) (l : Lent) where
   pub inspect-1 : lengths ≡ false → back 1 l ≡ inspect lengths look l
@@ -34,3 +39,36 @@ module _ (lengths : Bool) (look : Kernel → List ℕ) (l : Lent) where
       pub inspect-0 : t ≡ false → back 0 (withAnswer l (look k)) ≡ inspect lengths look l
       unfolding inspect
       inspect-0 z = rw (e, sound-is, h, ← f, ← q, z)
+
+-- ---- an operation that changes the block
+module _ (lengths : Bool) (refusal : Kernel → ℕ) (work : Kernel → Kernel) (written : Kernel → Lent) (l : Lent) where
+  pub change-1 : lengths ≡ false → back 1 l ≡ change lengths refusal work written l
+  unfolding change
+  change-1 e = rw e
+
+  module _ (e : lengths ≡ true) (k : Kernel) (f : k ≡ decBlock (l .block)) (r : Bool) (g : r ≡ (same (l .block) (encBlock k) and state? k)) where
+    asked : sound? (l .block) ≡ r
+    unfolding sound?
+    asked = rw (← f) (sym g)
+
+    pub change-2 : r ≡ false → back 2 l ≡ change lengths refusal work written l
+    unfolding change
+    change-2 h = rw (e, asked, h)
+
+    module _ (h : r ≡ true) (n : ℕ) (q : n ≡ refusal k) where
+      pub change-own : (n ≡ 0 → ⊥) → back n l ≡ change lengths refusal work written l
+      unfolding change
+      change-own z = rw (e, asked, h, ← f, ← q, ne-eqb n 0 z)
+
+      module _ (z : n ≡ 0) (m : ℕ) (v : m ≡ finding (work k)) where
+        pub change-found : (m ≡ 0 → ⊥) → back m l ≡ change lengths refusal work written l
+        unfolding change
+        change-found w = rw (e, asked, h, ← f, ← q, eq-eqb n 0 z, ← v, ne-eqb m 0 w)
+
+        pub change-0 : m ≡ 0 → back 0 (written k) ≡ change lengths refusal work written l
+        unfolding change
+        change-0 w = rw (e, asked, h, ← f, ← q, eq-eqb n 0 z, ← v, eq-eqb m 0 w)
+
+-- a number past the places reads as a Dead thread
+pub dead-far : (ts : List Thread) (t : ℕ) → length ts ≤ t → isDead (threadAt ts t .status) ≡ true
+dead-far ts t h = ap (λ (x : Thread). isDead (x .status)) (List·getD-eq-default ts noThread h)

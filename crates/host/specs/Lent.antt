@@ -27,6 +27,9 @@ back n l = record { number = n; after = l }
 abbrev pub withAnswer : Lent → List ℕ → Lent
 withAnswer l a = lent (l .block) (l .bank) (l .processor) (l .window) a
 
+abbrev pub withBlock : Lent → List ℕ → Lent
+withBlock l b = lent b (l .bank) (l .processor) (l .window) (l .answer)
+
 -- 0 and the kernel answers, from 16 on, are accepted; 1 to 8 are refusals
 unfoldable pub accepted? : ℕ → Bool
 accepted? n = eqb n 0 or leb 16 n

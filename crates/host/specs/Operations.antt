@@ -1,19 +1,21 @@
--- The exported operations: question 1, question 2, the work, question 8.
+-- The exported operations: question 1, question 2, their own questions, the work, questions 7 and 8.
 use mathlib.Core.Bool.{Bool, true, false}
 use mathlib.Core.List.{List, _++_}
 use Prim.Native.Nat.{ℕ}
 use lib.Dec.{eqb, ltb}
 use lib.ListN.{length, replicate}
-use Rattle.laws.specs.Logic.{pick, _and_}
+use Rattle.laws.specs.Logic.{pick, _and_, _or_}
 use Rattle.codec.specs.Bytes.{bytes}
 use Rattle.types.specs.declared.thread.TickOption.{TickOption}
 use Rattle.types.specs.declared.kernel.Kernel.{Kernel}
-use Rattle.types.specs.Thread.{tickFlag, tickValue}
+use Rattle.types.specs.Thread.{isDead, tickFlag, tickValue}
 use Rattle.block.specs.Block.{encBlock, decBlock}
+use Rattle.sound.specs.View.{threadAt}
 use Rattle.sound.specs.Question.{sound?}
 use Rattle.kernel.specs.Fresh.{fresh}
 use Rattle.kernel.specs.NextEvent as kernel
-use Rattle.host.specs.Lent.{Lent, lent, withAnswer, Back, back}
+use Rattle.thread.specs.Threads as thread
+use Rattle.host.specs.Lent.{Lent, lent, withAnswer, withBlock, Back, back}
 
 -- question 8 of an operation that changes nothing: the next handle is at most 0xFFFF8000
 unfoldable pub outOfHandles? : Kernel → Bool
@@ -41,3 +43,29 @@ tickBytes at = (bytes 4 (tickFlag at) ++ bytes 4 0) ++ bytes 8 (tickValue at)
 
 unfoldable pub nextEvent : Lent → Back
 nextEvent l = inspect (eqb (length (l .block)) 16384 and eqb (length (l .answer)) 16) (λ k. tickBytes (kernel.nextEvent k)) l
+
+-- ---- operations that change the block
+-- question 7 before question 8: a holding did not fit; a sum did not fit, or the handles are used up
+unfoldable pub finding : Kernel → ℕ
+finding k =
+    pick (k .full or (k .objects .full or k .handles .full)) 7
+    (pick (k .overflow or (k .objects .overflow or (k .handles .overflow or outOfHandles? k))) 8 0)
+
+-- the operation's own refusal is 0 for none; it is looked for before the work is done
+unfoldable pub change : Bool → (Kernel → ℕ) → (Kernel → Kernel) → (Kernel → Lent) → Lent → Back
+change lengths refusal work written l =
+    pick lengths
+    (pick (sound? (l .block))
+    (pick (eqb (refusal (decBlock (l .block))) 0)
+    (pick (eqb (finding (work (decBlock (l .block)))) 0) (back 0 (written (decBlock (l .block)))) (back (finding (work (decBlock (l .block)))) l))
+    (back (refusal (decBlock (l .block))) l))
+    (back 2 l))
+    (back 1 l)
+
+-- question 4 of the host's end: the thread exists and is not Dead
+unfoldable pub endRefusal : ℕ → Kernel → ℕ
+endRefusal t k = pick (ltb t (k .«thread_count»)) (pick (isDead (threadAt (k .threads) t .status)) 4 0) 4
+
+unfoldable pub endThread : ℕ → Lent → Back
+endThread t l =
+    change (eqb (length (l .block)) 16384) (endRefusal t) (λ k. thread.endThread k t) (λ k. withBlock l (encBlock (thread.endThread k t))) l

@@ -2,17 +2,20 @@
 use codec::Two;
 use types::kernel::Kernel;
 use types::object::HandleTable;
+use types::thread::Thread;
 use types::thread::TickOption;
 ghost use mathlib.Core.Path.{_≡_};
 ghost use mathlib.Core.List.{[]};
 ghost use lib.Dec.{ltb};
 ghost use lib.ListN.{length};
-ghost use Rattle.laws.specs.Logic.{_and_};
+ghost use Rattle.laws.specs.Logic.{pick, _and_};
 ghost use Rattle.codec.specs.Bytes.{same};
 ghost use Rattle.block.specs.Block.{encBlock};
+ghost use Rattle.types.specs.Thread.{isDead};
+ghost use Rattle.sound.specs.View.{threadAt};
 ghost use Rattle.sound.specs.Sound.{state?};
 ghost use Rattle.host.specs.Lent.{lent, back};
-ghost use Rattle.host.specs.Operations.{outOfHandles?, tickBytes, freshStart, nextEvent};
+ghost use Rattle.host.specs.Operations.{outOfHandles?, tickBytes, freshStart, nextEvent, finding, endRefusal, endThread};
 
 // Question 2, on a block and what it decodes to.
 fn block_ok(b: &[u8], k: Kernel) -> bool
@@ -81,5 +84,85 @@ pub extern "C" fn kernel_next_event(block: &[u8], answer: &mut [u8]) -> u32
         return 8;
     }
     put_tick(answer, kernel::next_event::next_event(k));
+    0
+}
+
+// Question 7 before question 8, after the work.
+fn first_finding(k: Kernel) -> u32
+    ensures { λ r. ⌜ r ≡ finding k ⌝ }
+{
+    let s = k.objects;
+    let h = k.handles;
+    if k.full {
+        return 7;
+    }
+    if s.full {
+        return 7;
+    }
+    if h.full {
+        return 7;
+    }
+    if k.overflow {
+        return 8;
+    }
+    if s.overflow {
+        return 8;
+    }
+    if h.overflow {
+        return 8;
+    }
+    if out_of_handles(k) {
+        return 8;
+    }
+    0
+}
+
+fn dead_refusal(ts: [Thread; 32], t: u32) -> u32
+    ensures { λ r. ⌜ r ≡ pick (isDead (threadAt ts t .status)) 4 0 ⌝ }
+{
+    if 32 <= t {
+        return 4;
+    }
+    let v = ts[t as usize];
+    let status = v.status;
+    if types::thread::is_dead(status) {
+        return 4;
+    }
+    0
+}
+
+// The thread exists and is not Dead.
+fn end_refusal(t: u32, k: Kernel) -> u32
+    ensures { λ r. ⌜ r ≡ endRefusal t k ⌝ }
+{
+    if k.thread_count <= t {
+        return 4;
+    }
+    let ts = k.threads;
+    dead_refusal(ts, t)
+}
+
+// A thread ends at the host's wish.
+#[no_mangle]
+pub extern "C" fn kernel_end_thread(block: &mut [u8], id: u32) -> u32
+    ensures { λ r. ⌜ back r (lent (now (block .exit)) [] [] [] []) ≡ endThread id (lent (now (block .entry)) [] [] [] []) ⌝ }
+{
+    if block.len() != 16384 {
+        return 1;
+    }
+    let k = block::decode(block);
+    if !block_ok(block, k) {
+        return 2;
+    }
+    let refusal = end_refusal(id, k);
+    if refusal != 0 {
+        return refusal;
+    }
+    let after = thread::end::end_thread(k, id);
+    let found = first_finding(after);
+    if found != 0 {
+        return found;
+    }
+    block::encode(block, after);
     0
 }
