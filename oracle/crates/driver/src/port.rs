@@ -19,7 +19,7 @@ pub struct Operation {
     pub try_on: fn(&mut Rng) -> Option<Op>,
 }
 
-pub const OPERATIONS: [Operation; 2] = [FRESH_START, NEXT_EVENT];
+pub const OPERATIONS: [Operation; 3] = [FRESH_START, NEXT_EVENT, END_THREAD];
 
 pub fn operation(op: &Op) -> Option<&'static Operation> {
     const LIST: &[Operation] = &OPERATIONS;
@@ -29,6 +29,7 @@ pub fn operation(op: &Op) -> Option<&'static Operation> {
 extern "C" {
     fn kernel_fresh_start(block: *mut u8, block_len: usize, bank: *mut u8, bank_len: usize, status_word: u32) -> u32;
     fn kernel_next_event(block: *const u8, block_len: usize, answer: *mut u8, answer_len: usize) -> u32;
+    fn kernel_end_thread(block: *mut u8, block_len: usize, thread: u32) -> u32;
 }
 
 const FRESH_START: Operation = Operation {
@@ -59,4 +60,22 @@ const NEXT_EVENT: Operation = Operation {
         bytes
     },
     try_on: |_| Some(Op::NextEvent),
+};
+
+const END_THREAD: Operation = Operation {
+    name: "end",
+    answer_len: 0,
+    starts_fresh: false,
+    reads_only: false,
+    is: |op| matches!(op, Op::End { .. }),
+    call: |op, lent, _| {
+        let Op::End { thread } = op else { unreachable!() };
+        unsafe { kernel_end_thread(lent.block.as_mut_ptr(), lent.block.len(), *thread) }
+    },
+    answer: |_| vec![],
+    // mostly a thread that may exist
+    try_on: |r| {
+        let below = if r.pct(5) { 1 << 32 } else if r.pct(70) { 6 } else { 34 };
+        Some(Op::End { thread: r.below(below) as u32 })
+    },
 };
