@@ -17,6 +17,11 @@ static uint8_t original[KERNEL_BLOCK_LEN], block[KERNEL_BLOCK_LEN], bank[KERNEL_
 static uint32_t fresh_start(void) { return kernel_fresh_start(block, sizeof block, bank, sizeof bank, 0x10); }
 static uint32_t next_event(void) { return kernel_next_event(block, sizeof block, answer, KERNEL_NEXT_EVENT_LEN); }
 
+static uint32_t create_thread(void)
+{
+    return kernel_create_thread(block, sizeof block, bank, sizeof bank, answer, KERNEL_CREATE_THREAD_LEN, 0x100001, 0x1000, 7, 24, 0);
+}
+
 static uint32_t ending;
 static uint32_t end_thread(void) { return kernel_end_thread(block, sizeof block, ending); }
 
@@ -33,6 +38,7 @@ static int find_live(void)
 static const struct export { const char *name; uint32_t (*call)(void); int changes; } exports[] = {
     {"kernel_fresh_start", fresh_start, 1},
     {"kernel_next_event", next_event, 0},
+    {"kernel_create_thread", create_thread, 1},
     {"kernel_end_thread", end_thread, 1},
 };
 

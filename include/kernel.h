@@ -23,6 +23,7 @@ extern "C" {
 
 /* Lengths of the answer slices. */
 #define KERNEL_NEXT_EVENT_LEN 16u
+#define KERNEL_CREATE_THREAD_LEN 4u
 
 /* Accepted. */
 #define KERNEL_DONE 0u
@@ -43,6 +44,13 @@ uint32_t kernel_fresh_start(uint8_t *block, size_t block_len, uint8_t *bank, siz
 /* The earliest tick at which a blocked thread or a timer wants a pass: word 1 if there is one and 0 if not,
    word 0, then the tick in 8 bytes, 0 if there is none. */
 uint32_t kernel_next_event(const uint8_t *block, size_t block_len, uint8_t *answer, size_t answer_len);
+
+/* Makes a thread that is ready to start at entry, in Thumb if bit 0 of entry is set: its record in the block, its row in
+   the bank, its number in the answer. A priority above 63 becomes 63. It gets the place of a Dead thread that no handle
+   or wait names, else a new place; KERNEL_FULL if there is none. */
+uint32_t kernel_create_thread(uint8_t *block, size_t block_len, uint8_t *bank, size_t bank_len, uint8_t *answer,
+                              size_t answer_len, uint32_t entry, uint32_t stack_top, uint32_t arg, uint32_t priority,
+                              uint32_t processor_id);
 
 /* Ends a thread: its wait ends, its mutexes are given back, and it is not current any more. KERNEL_NO_THREAD if
    there is no such thread or it is Dead. */

@@ -11,6 +11,7 @@ int main(void)
     setvbuf(stdout, NULL, _IOLBF, 0);
     test_fresh_start();
     test_next_event();
+    test_create_thread();
     test_end_thread();
     return report();
 }

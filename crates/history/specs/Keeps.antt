@@ -7,6 +7,7 @@ use native.Mathlib.Omega.{arith}
 use lib.Dec.{eqb, leb, ltb}
 use borrow.Author.Tests.{eqb-true, eqb-false, ltb-true}
 use lib.ListN.{length, replicate}
+use Rattle.codec.specs.Bytes.{bytes}
 use Rattle.laws.specs.Logic.{pick, _and_, _or_, false-true}
 use Rattle.types.specs.declared.kernel.Kernel.{Kernel}
 use Rattle.types.specs.Thread.{isDead}
@@ -17,9 +18,11 @@ use Rattle.kernel.specs.Fresh.{fresh}
 use Rattle.kernel.specs.NextEvent as kernel
 use Rattle.kernel.proofs.FreshSound.{fresh-sound}
 use Rattle.thread.specs.Threads as thread
+use Rattle.soundness.specs.Creates.{createThread-sound}
 use Rattle.soundness.specs.Ends.{endThread-sound}
 use Rattle.host.specs.Lent.{Lent, lent, withAnswer, withBlock, Back, back, accepted?}
-use Rattle.host.specs.Operations.{outOfHandles?, inspect, freshStart, tickBytes, nextEvent, finding, change, endRefusal, endThread}
+use Rattle.host.specs.Operations.{outOfHandles?, inspect, freshStart, tickBytes, nextEvent, finding, change, rowMade, createThread, endRefusal, endThread}
+use Rattle.host.proofs.Cases.{nothing-full, nothing-over}
 
 -- what holds of an operation on what was lent
 pub record Kept (l : Lent) (r : Back) : Type 0 where
@@ -89,6 +92,20 @@ unfolding change
 change-keeps t refusal work written l a h =
     let k : Kernel = decBlock (l .block) in
     changed-as l (refusal k) (finding (work k)) (written k) (a k) (finding-refusal (work k)) t (sound? (l .block)) (eqb (refusal k) 0) (eqb (finding (work k)) 0) refl refl refl h
+
+-- ---- a thread is made
+pub createThread-keeps : (entry stack arg priority processor : ℕ) → entry < 4294967296 → stack < 4294967296 → processor < 4294967296
+    → (l : Lent) → Kept l (createThread entry stack arg priority processor l)
+unfolding createThread
+createThread-keeps entry stack arg priority processor we ws wp l =
+    change-keeps (eqb (length (l .block)) 16384 and (eqb (length (l .bank)) 6656 and eqb (length (l .answer)) 4)) (λ k. 0)
+    (λ k. thread.createThread k entry stack priority processor)
+    (λ k. lent (encBlock (thread.createThread k entry stack priority processor)) (rowMade (l .bank) k entry stack arg) (l .processor) (l .window) (bytes 4 (thread.endedThread k))) l
+    (λ k n. absurd (n refl))
+    (λ s r f.
+    let k : Kernel = decBlock (l .block) in
+    let m : Kernel = thread.createThread k entry stack priority processor in
+    encoded-sound m (createThread-sound k entry stack priority processor (t-block (l .block) .yes s .state) we ws wp (nothing-full m f) (nothing-over m f)))
 
 -- ---- a thread ends
 end-refusal : (t : ℕ) (k : Kernel) → Refusal (endRefusal t k)

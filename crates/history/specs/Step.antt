@@ -3,17 +3,20 @@ use mathlib.Core.List.{List, [], _∷_}
 use Prim.Native.Nat.{ℕ, _<_}
 use Rattle.codec.proofs.Back.{Bytes}
 use Rattle.host.specs.Lent.{lent, Back}
-use Rattle.host.specs.Operations.{freshStart, nextEvent, endThread}
+use Rattle.host.specs.Operations.{freshStart, nextEvent, createThread, endThread}
 
 -- an operation with everything lent besides the block and every number: what C can pass, so slices are of bytes and numbers fit
 pub data Op : Type 0 where
   opFreshStart : (bank : List ℕ) → Bytes bank → (word : ℕ) → word < 4294967296 → Op
   opNextEvent : (answer : List ℕ) → Bytes answer → Op
+  opCreateThread : (bank : List ℕ) → Bytes bank → (answer : List ℕ) → Bytes answer → (entry : ℕ) → entry < 4294967296 → (stack : ℕ) → stack < 4294967296
+      → (arg : ℕ) → arg < 4294967296 → (priority : ℕ) → priority < 4294967296 → (processor : ℕ) → processor < 4294967296 → Op
   opEndThread : (thread : ℕ) → thread < 4294967296 → Op
 
 unfoldable pub step : Op → List ℕ → Back
 step (opFreshStart bank u word h) b = freshStart word (lent b bank [] [] [])
 step (opNextEvent answer u) b = nextEvent (lent b [] [] [] answer)
+step (opCreateThread bank u answer v entry e stack s arg a priority p processor q) b = createThread entry stack arg priority processor (lent b bank [] [] answer)
 step (opEndThread thread h) b = endThread thread (lent b [] [] [] [])
 
 pub record Entry : Type 0 where

@@ -1,11 +1,13 @@
 -- An operation by the code's cases, one law a case for every operation of a sort. Assumes nothing.
-use mathlib.Core.Path.{_≡_, ap, sym}
+use mathlib.Core.Path.{_≡_, refl, ap, sym}
 use mathlib.Core.Bool.{Bool, true, false}
 use mathlib.Core.List.{List}
-use Prim.Native.Nat.{ℕ, _≤_}
+use Prim.Native.Nat.{ℕ, _≤_, _<_}
+use native.Mathlib.Omega.{arith}
+use lib.Dec.{leb}
 use lib.ListN.{length, List·getD-eq-default}
-use borrow.Author.Tests.{eq-eqb, ne-eqb}
-use Rattle.laws.specs.Logic.{pick, _and_}
+use borrow.Author.Tests.{eq-eqb, ne-eqb, leb-false}
+use Rattle.laws.specs.Logic.{pick, _and_, _or_, or-false}
 use Rattle.codec.specs.Bytes.{same}
 use Rattle.types.specs.declared.thread.Thread.{Thread}
 use Rattle.types.specs.declared.kernel.Kernel.{Kernel}
@@ -14,6 +16,7 @@ use Rattle.block.specs.Block.{encBlock, decBlock}
 use Rattle.sound.specs.View.{noThread, threadAt}
 use Rattle.sound.specs.Sound.{state?}
 use Rattle.sound.specs.Question.{sound?}
+use Rattle.thread.specs.Threads.{createThread, endedThread}
 use Rattle.host.specs.Lent.{Lent, withAnswer, back}
 use Rattle.host.specs.Operations.{outOfHandles?, inspect, finding, change}
 
@@ -72,3 +75,27 @@ module _ (lengths : Bool) (refusal : Kernel → ℕ) (work : Kernel → Kernel) 
 -- a number past the places reads as a Dead thread
 pub dead-far : (ts : List Thread) (t : ℕ) → length ts ≤ t → isDead (threadAt ts t .status) ≡ true
 dead-far ts t h = ap (λ (x : Thread). isDead (x .status)) (List·getD-eq-default ts noThread h)
+
+-- ---- no finding: nothing was too full, and nothing too large
+pub nothing-full : (k : Kernel) → finding k ≡ 0 → k .full ≡ false
+unfolding finding _or_
+nothing-full k e = go (k .full) e
+  where
+    go : (f : Bool) → _≡_ {A = ℕ} (pick (f or (k .objects .full or k .handles .full)) 7 (pick (k .overflow or (k .objects .overflow or (k .handles .overflow or outOfHandles? k))) 8 0)) 0 → f ≡ false
+    go true z = absurd (omega arith)
+    go false z = refl
+
+pub nothing-over : (k : Kernel) → finding k ≡ 0 → k .overflow ≡ false
+unfolding finding _or_
+nothing-over k e = go (k .full or (k .objects .full or k .handles .full)) (k .overflow) e
+  where
+    go : (f v : Bool) → _≡_ {A = ℕ} (pick f 7 (pick (v or (k .objects .overflow or (k .handles .overflow or outOfHandles? k))) 8 0)) 0 → v ≡ false
+    go true v z = absurd (omega arith)
+    go false true z = absurd (omega arith)
+    go false false z = refl
+
+-- a thread that fits has a place
+pub made-place : (k : Kernel) (entry stack priority processor : ℕ) → finding (createThread k entry stack priority processor) ≡ 0 → endedThread k < 32
+unfolding createThread
+made-place k entry stack priority processor e =
+    leb-false 32 (endedThread k) (or-false (k .full) (leb 32 (endedThread k)) (nothing-full (createThread k entry stack priority processor) e) .1)

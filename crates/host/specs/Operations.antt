@@ -1,19 +1,21 @@
 -- The exported operations: question 1, question 2, their own questions, the work, questions 7 and 8.
 use mathlib.Core.Bool.{Bool, true, false}
 use mathlib.Core.List.{List, _++_}
-use Prim.Native.Nat.{ℕ}
+use Prim.Native.Nat.{ℕ, _*_}
 use lib.Dec.{eqb, ltb}
 use lib.ListN.{length, replicate}
 use Rattle.laws.specs.Logic.{pick, _and_, _or_}
-use Rattle.codec.specs.Bytes.{bytes}
+use Rattle.codec.specs.Bytes.{bytes, over}
 use Rattle.types.specs.declared.thread.TickOption.{TickOption}
 use Rattle.types.specs.declared.kernel.Kernel.{Kernel}
 use Rattle.types.specs.Thread.{isDead, tickFlag, tickValue}
+use Rattle.block.specs.Context.{encContext}
 use Rattle.block.specs.Block.{encBlock, decBlock}
 use Rattle.sound.specs.View.{threadAt}
 use Rattle.sound.specs.Question.{sound?}
 use Rattle.kernel.specs.Fresh.{fresh}
 use Rattle.kernel.specs.NextEvent as kernel
+use Rattle.thread.specs.Thread.{newContext}
 use Rattle.thread.specs.Threads as thread
 use Rattle.host.specs.Lent.{Lent, lent, withAnswer, withBlock, Back, back}
 
@@ -69,3 +71,14 @@ endRefusal t k = pick (ltb t (k .«thread_count»)) (pick (isDead (threadAt (k .
 unfoldable pub endThread : ℕ → Lent → Back
 endThread t l =
     change (eqb (length (l .block)) 16384) (endRefusal t) (λ k. thread.endThread k t) (λ k. withBlock l (encBlock (thread.endThread k t))) l
+
+-- the new thread's row of the bank; its words are the state's default status word and the thread's TLS slot
+abbrev pub rowMade : List ℕ → Kernel → ℕ → ℕ → ℕ → List ℕ
+rowMade bank k entry stack arg = over bank (thread.endedThread k * 208) (encContext (newContext (k .«status_word») entry stack arg (thread.tlsSlot k)))
+
+-- a new thread; the answer is its number
+unfoldable pub createThread : ℕ → ℕ → ℕ → ℕ → ℕ → Lent → Back
+createThread entry stack arg priority processor l =
+    change (eqb (length (l .block)) 16384 and (eqb (length (l .bank)) 6656 and eqb (length (l .answer)) 4)) (λ k. 0)
+    (λ k. thread.createThread k entry stack priority processor)
+    (λ k. lent (encBlock (thread.createThread k entry stack priority processor)) (rowMade (l .bank) k entry stack arg) (l .processor) (l .window) (bytes 4 (thread.endedThread k))) l

@@ -19,7 +19,7 @@ pub struct Operation {
     pub try_on: fn(&mut Rng) -> Option<Op>,
 }
 
-pub const OPERATIONS: [Operation; 3] = [FRESH_START, NEXT_EVENT, END_THREAD];
+pub const OPERATIONS: [Operation; 4] = [FRESH_START, NEXT_EVENT, CREATE_THREAD, END_THREAD];
 
 pub fn operation(op: &Op) -> Option<&'static Operation> {
     const LIST: &[Operation] = &OPERATIONS;
@@ -29,6 +29,20 @@ pub fn operation(op: &Op) -> Option<&'static Operation> {
 extern "C" {
     fn kernel_fresh_start(block: *mut u8, block_len: usize, bank: *mut u8, bank_len: usize, status_word: u32) -> u32;
     fn kernel_next_event(block: *const u8, block_len: usize, answer: *mut u8, answer_len: usize) -> u32;
+    #[allow(clippy::too_many_arguments)]
+    fn kernel_create_thread(
+        block: *mut u8,
+        block_len: usize,
+        bank: *mut u8,
+        bank_len: usize,
+        answer: *mut u8,
+        answer_len: usize,
+        entry: u32,
+        stack_top: u32,
+        arg: u32,
+        priority: u32,
+        processor_id: u32,
+    ) -> u32;
     fn kernel_end_thread(block: *mut u8, block_len: usize, thread: u32) -> u32;
 }
 
@@ -60,6 +74,42 @@ const NEXT_EVENT: Operation = Operation {
         bytes
     },
     try_on: |_| Some(Op::NextEvent),
+};
+
+const CREATE_THREAD: Operation = Operation {
+    name: "create",
+    answer_len: 4,
+    starts_fresh: false,
+    reads_only: false,
+    is: |op| matches!(op, Op::Create { .. }),
+    call: |op, lent, answer| {
+        let Op::Create { entry, stack, arg, prio, proc } = op else { unreachable!() };
+        let (block, bank) = (&mut lent.block, &mut lent.bank);
+        unsafe {
+            kernel_create_thread(
+                block.as_mut_ptr(),
+                block.len(),
+                bank.as_mut_ptr(),
+                bank.len(),
+                answer.as_mut_ptr(),
+                answer.len(),
+                *entry,
+                *stack,
+                *arg,
+                *prio,
+                *proc as u32,
+            )
+        }
+    },
+    answer: |out| {
+        let Out::Thread(thread) = out else { unreachable!() };
+        thread.to_le_bytes().to_vec()
+    },
+    // a priority on either side of the lowest
+    try_on: |r| {
+        let prio = if r.pct(10) { r.next() as u32 } else { r.below(70) as u32 };
+        Some(Op::Create { entry: r.next() as u32, stack: r.next() as u32, arg: r.next() as u32, prio, proc: r.next() as i32 })
+    },
 };
 
 const END_THREAD: Operation = Operation {

@@ -9,6 +9,7 @@ use Rattle.codec.proofs.Laws.{length-bytes}
 use Rattle.block.specs.Context.{encContext}
 use Rattle.block.proofs.Row.{start, next, whole, length-all}
 use Rattle.block.proofs.Sizes.{length-two}
+use Rattle.block.proofs.Contexts.{length-encContext}
 use borrow.Author.Needs.{needs}
 use Rattle.block.proofs.context.put_context.Statement.{statement}
 use Rattle.block.proofs.context.put_context.Tie as tie
@@ -49,7 +50,7 @@ returns c =
     let r3 = next (encAll (bytes 4) (x .«vfp_regs»)) 128 r2 l3 refl (p3 .put-words32 .ensures .0) in
     let r4 = next (twoBytes v) 8 r3 (length-two v) refl (p4 .put-two .ensures) in
     let r5 = next (bytes 4 (x .«tls_pointer»)) 4 r4 (length-bytes 4 (x .«tls_pointer»)) refl (p5 .put322 .ensures) in
-    whole r5 ∙ simp append-assoc
+    (whole r5 ∙ simp append-assoc, length-encContext x (p1 .put-words16 .ensures .1) (p3 .put-words32 .ensures .1))
 
 pub put-context-spec : {M : Type 1} → statement M
 put-context-spec =

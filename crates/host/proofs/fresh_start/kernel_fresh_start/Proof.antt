@@ -6,10 +6,10 @@ use Rattle.laws.specs.Logic.{pick, _and_, and-no, and-yes, true-and, pick-yes, 
 use Rattle.codec.proofs.Laws.{over-all}
 use Rattle.host.specs.Operations.{freshStart}
 use borrow.Author.Needs.{needs}
-use Rattle.host.proofs.kernel_fresh_start.Statement.{statement}
-use Rattle.host.proofs.kernel_fresh_start.Tie as tie
-use Rattle.host.proofs.kernel_fresh_start.Reads as reads
-use Rattle.host.proofs.kernel_fresh_start.Lts as lts
+use Rattle.host.proofs.fresh_start.kernel_fresh_start.Statement.{statement}
+use Rattle.host.proofs.fresh_start.kernel_fresh_start.Tie as tie
+use Rattle.host.proofs.fresh_start.kernel_fresh_start.Reads as reads
+use Rattle.host.proofs.fresh_start.kernel_fresh_start.Lts as lts
 use Rattle.block.proofs.encode.Reads as encode-reads
 use Rattle.codec.proofs.put_zeros.Reads as put-zeros-reads
 use Rattle.kernel.proofs.fresh.fresh_kernel.Reads as fresh-kernel-reads

@@ -1,10 +1,10 @@
 use mathlib.Core.Path.{refl}
 use Rattle.host.specs.Operations.{outOfHandles?}
 use borrow.Author.Needs.{needs}
-use Rattle.host.proofs.out_of_handles.Statement.{statement}
-use Rattle.host.proofs.out_of_handles.Tie as tie
-use Rattle.host.proofs.out_of_handles.Reads as reads
-use Rattle.host.proofs.out_of_handles.Lts as lts
+use Rattle.host.proofs.questions.out_of_handles.Statement.{statement}
+use Rattle.host.proofs.questions.out_of_handles.Tie as tie
+use Rattle.host.proofs.questions.out_of_handles.Reads as reads
+use Rattle.host.proofs.questions.out_of_handles.Lts as lts
 
 returns : tie.Need-returns
 unfolding outOfHandles?

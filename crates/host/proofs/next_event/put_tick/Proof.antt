@@ -8,10 +8,10 @@ use Rattle.block.proofs.Row.{start, next, whole}
 use Rattle.block.proofs.Sizes.{length-two}
 use Rattle.host.specs.Operations.{tickBytes}
 use borrow.Author.Needs.{needs}
-use Rattle.host.proofs.put_tick.Statement.{statement}
-use Rattle.host.proofs.put_tick.Tie as tie
-use Rattle.host.proofs.put_tick.Reads as reads
-use Rattle.host.proofs.put_tick.Lts as lts
+use Rattle.host.proofs.next_event.put_tick.Statement.{statement}
+use Rattle.host.proofs.next_event.put_tick.Tie as tie
+use Rattle.host.proofs.next_event.put_tick.Reads as reads
+use Rattle.host.proofs.next_event.put_tick.Lts as lts
 use Rattle.codec.proofs.put64.Reads as put64-reads
 use Rattle.codec.proofs.put_two.Reads as put-two-reads
 use Rattle.types.proofs.thread.tick_flag.Reads as tick-flag-reads

@@ -10,14 +10,14 @@ use Rattle.host.specs.Operations.{tickBytes}
 use Rattle.host.specs.Operations as operation
 use Rattle.host.proofs.Cases.{inspect-1, inspect-2, inspect-8, inspect-0}
 use borrow.Author.Needs.{needs}
-use Rattle.host.proofs.kernel_next_event.Statement.{statement}
-use Rattle.host.proofs.kernel_next_event.Tie as tie
-use Rattle.host.proofs.kernel_next_event.Reads as reads
-use Rattle.host.proofs.kernel_next_event.Lts as lts
+use Rattle.host.proofs.next_event.kernel_next_event.Statement.{statement}
+use Rattle.host.proofs.next_event.kernel_next_event.Tie as tie
+use Rattle.host.proofs.next_event.kernel_next_event.Reads as reads
+use Rattle.host.proofs.next_event.kernel_next_event.Lts as lts
 use Rattle.block.proofs.decode.Reads as decode-reads
-use Rattle.host.proofs.block_ok.Reads as block-ok-reads
-use Rattle.host.proofs.out_of_handles.Reads as out-of-handles-reads
-use Rattle.host.proofs.put_tick.Reads as put-tick-reads
+use Rattle.host.proofs.questions.block_ok.Reads as block-ok-reads
+use Rattle.host.proofs.questions.out_of_handles.Reads as out-of-handles-reads
+use Rattle.host.proofs.next_event.put_tick.Reads as put-tick-reads
 use Rattle.kernel.proofs.next_event.next_event.Reads as next-event-reads
 
 returns : tie.Need-returns
@@ -52,10 +52,10 @@ out-of-handles-requires : tie.Need-out-of-handles-requires
 out-of-handles-requires c κs = search needs
 
 returns-4 : tie.Need-returns-4
-unfolding operation.nextEvent
+unfolding operation.nextEvent operation.outOfHandles?
 returns-4 c =
     let h = c .before in
-    let p = h .before in
+    let p = h .before .before in
     let o = p .before in
     let d = o .before in
     let q = d .before in
@@ -73,13 +73,13 @@ same-length : tie.Need-same-length
 same-length c = search needs
 
 returns-5 : tie.Need-returns-5
-unfolding operation.nextEvent
+unfolding operation.nextEvent operation.outOfHandles?
 returns-5 c =
     let t = c .before .before in
     let n = t .before in
     let i = n .before .before in
     let h = i .before in
-    let p = h .before in
+    let p = h .before .before in
     let o = p .before in
     let d = o .before in
     let q = d .before in

@@ -1,10 +1,10 @@
 use native.Mathlib.Omega.{arith}
 use Rattle.host.proofs.Cases.{dead-far}
 use borrow.Author.Needs.{needs}
-use Rattle.host.proofs.dead_refusal.Statement.{statement}
-use Rattle.host.proofs.dead_refusal.Tie as tie
-use Rattle.host.proofs.dead_refusal.Reads as reads
-use Rattle.host.proofs.dead_refusal.Lts as lts
+use Rattle.host.proofs.end_thread.dead_refusal.Statement.{statement}
+use Rattle.host.proofs.end_thread.dead_refusal.Tie as tie
+use Rattle.host.proofs.end_thread.dead_refusal.Reads as reads
+use Rattle.host.proofs.end_thread.dead_refusal.Lts as lts
 use Rattle.types.proofs.thread.is_dead.Reads as is-dead-reads
 
 returns : tie.Need-returns

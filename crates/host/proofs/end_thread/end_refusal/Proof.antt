@@ -1,11 +1,11 @@
 use borrow.Author.Tests.{lt-ltb, le-ltb}
 use Rattle.host.specs.Operations.{endRefusal}
 use borrow.Author.Needs.{needs}
-use Rattle.host.proofs.end_refusal.Statement.{statement}
-use Rattle.host.proofs.end_refusal.Tie as tie
-use Rattle.host.proofs.end_refusal.Reads as reads
-use Rattle.host.proofs.end_refusal.Lts as lts
-use Rattle.host.proofs.dead_refusal.Reads as dead-refusal-reads
+use Rattle.host.proofs.end_thread.end_refusal.Statement.{statement}
+use Rattle.host.proofs.end_thread.end_refusal.Tie as tie
+use Rattle.host.proofs.end_thread.end_refusal.Reads as reads
+use Rattle.host.proofs.end_thread.end_refusal.Lts as lts
+use Rattle.host.proofs.end_thread.dead_refusal.Reads as dead-refusal-reads
 
 returns : tie.Need-returns
 unfolding endRefusal

@@ -1,0 +1,159 @@
+use mathlib.Core.Path.{_≡_, refl, ap, sym, _∙_}
+use mathlib.Core.List.{[]}
+use Prim.Native.Nat.{ℕ}
+use borrow.Author.Tests.{eq-eqb, ne-eqb, not-true, not-false}
+use Rattle.laws.specs.Logic.{_and_, and-no, and-yes, true-and}
+use Rattle.codec.specs.Bytes.{bytes}
+use Rattle.types.specs.declared.kernel.Kernel.{Kernel}
+use Rattle.block.specs.Block.{encBlock}
+use Rattle.thread.specs.Threads.{createThread, endedThread}
+use Rattle.host.specs.Lent.{Lent, lent}
+use Rattle.host.specs.Operations.{finding, rowMade}
+use Rattle.host.specs.Operations as operation
+use Rattle.host.proofs.Cases.{change-1, change-2, change-found, change-0, made-place}
+use borrow.Author.Needs.{needs}
+use Rattle.host.proofs.create_thread.kernel_create_thread.Statement.{statement}
+use Rattle.host.proofs.create_thread.kernel_create_thread.Tie as tie
+use Rattle.host.proofs.create_thread.kernel_create_thread.Reads as reads
+use Rattle.host.proofs.create_thread.kernel_create_thread.Lts as lts
+use Rattle.block.proofs.decode.Reads as decode-reads
+use Rattle.block.proofs.encode.Reads as encode-reads
+use Rattle.host.proofs.create_thread.put_made.Reads as put-made-reads
+use Rattle.host.proofs.questions.block_ok.Reads as block-ok-reads
+use Rattle.host.proofs.questions.first_finding.Reads as first-finding-reads
+use Rattle.thread.proofs.create.create_thread.Reads as create-thread-reads
+
+abbrev work : ℕ → ℕ → ℕ → ℕ → Kernel → Kernel
+work entry stack priority processor = λ k. createThread k entry stack priority processor
+
+abbrev written : Lent → ℕ → ℕ → ℕ → ℕ → ℕ → Kernel → Lent
+written l entry stack arg priority processor = λ k. lent (encBlock (createThread k entry stack priority processor)) (rowMade (l .bank) k entry stack arg) (l .processor) (l .window) (bytes 4 (endedThread k))
+
+returns : tie.Need-returns
+unfolding operation.createThread
+returns c =
+    let a = c .before .before .before .before .args in
+    let l = lent (a .block .now) (a .bank .now) [] [] (a .answer .now) in
+    change-1 _ (λ k. 0) (work (a .entry) (a .stack-top) (a .priority) (a .processor-id)) (written l (a .entry) (a .stack-top) (a .arg) (a .priority) (a .processor-id)) l (and-no _ _ (ne-eqb _ 16384 (c .if1 .taken)))
+
+returns-2 : tie.Need-returns-2
+unfolding operation.createThread
+returns-2 c =
+    let a = c .before .before .before .before .before .args in
+    let l = lent (a .block .now) (a .bank .now) [] [] (a .answer .now) in
+    change-1 _ (λ k. 0) (work (a .entry) (a .stack-top) (a .priority) (a .processor-id)) (written l (a .entry) (a .stack-top) (a .arg) (a .priority) (a .processor-id)) l (and-yes _ _ (eq-eqb _ 16384 (c .before .if1 .left)) ∙ and-no _ _ (ne-eqb _ 6656 (c .if2 .taken)))
+
+returns-3 : tie.Need-returns-3
+unfolding operation.createThread
+returns-3 c =
+    let a = c .before .before .before .before .before .before .args in
+    let l = lent (a .block .now) (a .bank .now) [] [] (a .answer .now) in
+    change-1 _ (λ k. 0) (work (a .entry) (a .stack-top) (a .priority) (a .processor-id)) (written l (a .entry) (a .stack-top) (a .arg) (a .priority) (a .processor-id)) l (and-yes _ _ (eq-eqb _ 16384 (c .before .before .if1 .left)) ∙ (and-yes _ _ (eq-eqb _ 6656 (c .before .if2 .left)) ∙ ne-eqb _ 4 (c .if3 .taken)))
+
+decode-requires : tie.Need-decode-requires
+decode-requires c κs = search needs
+
+block-ok-requires : tie.Need-block-ok-requires
+block-ok-requires c κs = search needs
+
+same-length : tie.Need-same-length
+same-length c = search needs
+
+returns-4 : tie.Need-returns-4
+unfolding operation.createThread
+returns-4 c =
+    let o = c .before in
+    let d = o .before .before in
+    let q = d .before .before in
+    let a = c .before .before .before .before .before .before .before .before .before .before .before .args in
+    let l = lent (a .block .now) (a .bank .now) [] [] (a .answer .now) in
+    change-2 _ (λ k. 0) (work (a .entry) (a .stack-top) (a .priority) (a .processor-id)) (written l (a .entry) (a .stack-top) (a .arg) (a .priority) (a .processor-id)) l (true-and _ _ (eq-eqb _ 16384 (q .before .before .if1 .left)) (true-and _ _ (eq-eqb _ 6656 (q .before .if2 .left)) (eq-eqb _ 4 (q .if3 .left)))) _ (d .decode .ensures) _ (o .block-ok .ensures) (not-true _ (c .if4 .taken))
+
+create-thread-requires : tie.Need-create-thread-requires
+create-thread-requires c κs = search needs
+
+first-finding-requires : tie.Need-first-finding-requires
+first-finding-requires c κs = search needs
+
+same-length-2 : tie.Need-same-length-2
+same-length-2 c = search needs
+
+returns-5 : tie.Need-returns-5
+unfolding operation.createThread
+returns-5 c =
+    let f = c .before in
+    let m = f .before in
+    let i = m .before in
+    let o = i .before in
+    let d = o .before .before in
+    let q = d .before .before in
+    let a = c .before .before .before .before .before .before .before .before .before .before .before .before .before .before .args in
+    let l = lent (a .block .now) (a .bank .now) [] [] (a .answer .now) in
+    change-found _ (λ k. 0) (work (a .entry) (a .stack-top) (a .priority) (a .processor-id)) (written l (a .entry) (a .stack-top) (a .arg) (a .priority) (a .processor-id)) l (true-and _ _ (eq-eqb _ 16384 (q .before .before .if1 .left)) (true-and _ _ (eq-eqb _ 6656 (q .before .if2 .left)) (eq-eqb _ 4 (q .if3 .left)))) _ (d .decode .ensures) _ (o .block-ok .ensures) (not-false _ (i .if4 .left)) 0 refl refl _ (f .first-finding .ensures ∙ ap finding (m .create-thread .ensures)) (c .if5 .taken)
+
+encode-requires : tie.Need-encode-requires
+encode-requires c κs = search needs
+
+put-made-requires : tie.Need-put-made-requires
+put-made-requires c κs =
+    let g = c .before .before .before .before .before .before in
+    let f = g .before in
+    let m = f .before in
+    let a = c .before .before .before .before .before .before .before .before .before .before .before .before .before .before .before .before .before .before .before .before .args in
+    let d = m .before .before .before .before in
+    let q = d .before .before in (
+      q .before .if2 .left,
+      (
+        q .if3 .left,
+        made-place (d .decode .result) (a .entry) (a .stack-top) (a .priority) (a .processor-id)
+            (ap finding (sym (m .create-thread .ensures)) ∙ (sym (f .first-finding .ensures) ∙ g .if5 .left)),
+      ),
+    )
+
+same-length-3 : tie.Need-same-length-3
+same-length-3 c = search needs
+
+same-length-4 : tie.Need-same-length-4
+same-length-4 c = search needs
+
+same-length-5 : tie.Need-same-length-5
+same-length-5 c = search needs
+
+returns-6 : tie.Need-returns-6
+unfolding operation.createThread
+returns-6 c =
+    let w = c .before .before .before .before in
+    let e = w .before .before .before .before .before in
+    let g = e .before .before in
+    let f = g .before in
+    let m = f .before in
+    let i = m .before in
+    let o = i .before in
+    let d = o .before .before in
+    let q = d .before .before in
+    let a = c .before .before .before .before .before .before .before .before .before .before .before .before .before .before .before .before .before .before .before .before .before .before .before .before .before .args in
+    let l = lent (a .block .now) (a .bank .now) [] [] (a .answer .now) in
+    rw (e .encode .ensures, w .put-made .ensures .0, w .put-made .ensures .1, m .create-thread .ensures)
+    (change-0 _ (λ k. 0) (work (a .entry) (a .stack-top) (a .priority) (a .processor-id)) (written l (a .entry) (a .stack-top) (a .arg) (a .priority) (a .processor-id)) l (true-and _ _ (eq-eqb _ 16384 (q .before .before .if1 .left)) (true-and _ _ (eq-eqb _ 6656 (q .before .if2 .left)) (eq-eqb _ 4 (q .if3 .left)))) _ (d .decode .ensures) _ (o .block-ok .ensures) (not-false _ (i .if4 .left)) 0 refl refl _ (f .first-finding .ensures ∙ ap finding (m .create-thread .ensures)) (g .if5 .left))
+
+pub kernel-create-thread-spec : {M : Type 1} → statement M
+kernel-create-thread-spec =
+    tie.close
+    (tie.spec
+    returns
+    returns-2
+    returns-3
+    decode-requires
+    block-ok-requires
+    same-length
+    returns-4
+    create-thread-requires
+    first-finding-requires
+    same-length-2
+    returns-5
+    encode-requires
+    put-made-requires
+    same-length-3
+    same-length-4
+    same-length-5
+    returns-6)

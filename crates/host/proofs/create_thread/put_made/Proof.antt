@@ -1,0 +1,59 @@
+use native.Mathlib.Omega.{arith}
+use Rattle.codec.specs.Bytes.{bytes}
+use Rattle.codec.proofs.Laws.{length-bytes, over-all}
+use Rattle.thread.specs.Threads.{endedThread}
+use borrow.Author.Needs.{needs}
+use Rattle.host.proofs.create_thread.put_made.Statement.{statement}
+use Rattle.host.proofs.create_thread.put_made.Tie as tie
+use Rattle.host.proofs.create_thread.put_made.Reads as reads
+use Rattle.host.proofs.create_thread.put_made.Lts as lts
+use Rattle.block.proofs.context.put_row.Reads as put-row-reads
+use Rattle.codec.proofs.put32.Reads as put32-reads
+use Rattle.thread.proofs.places.ended_thread.Reads as ended-thread-reads
+use Rattle.thread.proofs.places.tls_slot.Reads as tls-slot-reads
+use Rattle.thread.proofs.thread.new_context.Reads as new-context-reads
+
+ended-thread-requires : tie.Need-ended-thread-requires
+ended-thread-requires c κs = search needs
+
+tls-slot-requires : tie.Need-tls-slot-requires
+tls-slot-requires c κs = search needs
+
+new-context-requires : tie.Need-new-context-requires
+new-context-requires c κs = search needs
+
+put-row-requires : tie.Need-put-row-requires
+put-row-requires c κs = search needs
+
+put32-requires : tie.Need-put32-requires
+put32-requires c κs = search needs
+
+same-length : tie.Need-same-length
+same-length c = search needs
+
+same-length-2 : tie.Need-same-length-2
+same-length-2 c = search needs
+
+returns : tie.Need-returns
+returns c =
+    let v = c .before .before in
+    let r = v .before .before .before .before in
+    let x = r .before .before in
+    let t = x .before in
+    let e = t .before in
+    let b = e .before .before .before in
+    let a = b .args in
+    (rw (r .put-row .ensures, x .new-context .ensures, t .tls-slot .ensures, e .ended-thread .ensures), rw (v .put32 .ensures, e .ended-thread .ensures) (over-all (a .answer .now) (bytes 4 (endedThread (a .k))) (omega (arith, length-bytes 4 (endedThread (a .k)), b .pre))))
+
+pub put-made-spec : {M : Type 1} → statement M
+put-made-spec =
+    tie.close
+    (tie.spec
+    ended-thread-requires
+    tls-slot-requires
+    new-context-requires
+    put-row-requires
+    put32-requires
+    same-length
+    same-length-2
+    returns)
