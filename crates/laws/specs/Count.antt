@@ -51,6 +51,12 @@ count-set a [] i v h = omega arith
 count-set a (x ∷ xs) zero v h = omega arith
 count-set a (x ∷ xs) (suc i) v h = omega (arith, count-set a xs i v (omega arith))
 
+-- inside a list what is taken past its end does not matter
+pub get-any : (l : List ℕ) (i a b : ℕ) → i < length l → getD l i a ≡ getD l i b
+get-any [] i a b h = absurd (omega arith)
+get-any (x ∷ l) zero a b h = refl
+get-any (x ∷ l) (suc i) a b h = get-any l i a b (omega arith)
+
 -- the cell numbered r, from 1; 0 is no cell
 unfoldable pub at : List ℕ → ℕ → ℕ
 at l zero = 0

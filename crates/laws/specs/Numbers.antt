@@ -4,9 +4,14 @@ use mathlib.Core.Bool.{Bool, true, false}
 use mathlib.Core.Logic.{_⊎_, inl, inr}
 use Prim.Native.Nat.{ℕ, zero, suc, _+_, _-_, _≤_, _<_}
 use native.Mathlib.Omega.{arith}
-use Rattle.laws.specs.Logic.{_and_, and-true, true-and}
+use Rattle.laws.specs.Logic.{_and_, and-true, true-and, lt-cases}
 use Rattle.laws.specs.Test.{Test, t-as}
 use Rattle.laws.specs.Count.{ind-cases}
+
+-- a number from 1 to n, or not
+pub cell-cases : (n i : ℕ) → ((0 < i) × (i ≤ n)) ⊎ (0 < i → n < i)
+cell-cases n zero = inr (λ p. omega arith)
+cell-cases n (suc i) = elim (lt-cases n (suc i)) [ inl h ↦ inr (λ p. h) | inr h ↦ inl (omega arith, h) ]
 
 unfoldable pub allTo : ℕ → (ℕ → Bool) → Bool
 allTo zero p = true

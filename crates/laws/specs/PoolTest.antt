@@ -1,7 +1,7 @@
 -- The computed test that the chains and the free one share out the pool, and that it says what `Pool` says.
 use mathlib.Core.Path.{_≡_, refl, sym, _∙_}
 use mathlib.Core.Bool.{Bool, true, false}
-use mathlib.Core.Logic.{_⊎_, inl, inr}
+use mathlib.Core.Logic.{inl, inr}
 use mathlib.Core.List.{List, [], _∷_}
 use Prim.Native.Nat.{ℕ, zero, suc, _+_, _≤_, _<_}
 use native.Mathlib.Omega.{arith}
@@ -11,7 +11,7 @@ use borrow.Author.Tests.{eq-eqb, eqb-true}
 use Rattle.laws.specs.Logic.{_and_, and-true, true-and, lt-cases}
 use Rattle.laws.specs.Test.{Test}
 use Rattle.laws.specs.Count.{ind-cases, count, countAll, Cell}
-use Rattle.laws.specs.Numbers.{allTo, allTo-true, true-allTo}
+use Rattle.laws.specs.Numbers.{cell-cases, allTo, allTo-true, true-allTo}
 use Rattle.laws.specs.Chain.{IsChain}
 use Rattle.laws.specs.Walk.{walk, ends?, walk-chain, chain-walk, chain-fits, chain-cell}
 use Rattle.laws.specs.Pool.{Chains, cell1, cell1-le, Pool}
@@ -67,10 +67,6 @@ cell1-out n zero h = refl
 cell1-out zero (suc i) h = refl
 cell1-out (suc n) (suc zero) h = absurd (omega (arith, h (omega arith)))
 cell1-out (suc n) (suc (suc i)) h = cell1-out n (suc i) (λ p. omega (arith, h (omega arith)))
-
-cell-cases : (n i : ℕ) → ((0 < i) × (i ≤ n)) ⊎ (0 < i → n < i)
-cell-cases n zero = inr (λ p. omega arith)
-cell-cases n (suc i) = elim (lt-cases n (suc i)) [ inl h ↦ inr (λ p. h) | inr h ↦ inl (omega arith, h) ]
 
 pub pool-sound : (nx hs : List ℕ) (free : ℕ) → pool? nx hs free ≡ true → Pool nx hs free
 unfolding pool?

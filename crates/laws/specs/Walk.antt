@@ -1,9 +1,9 @@
 -- The walk of a chain: at most as many cells as allowed, so a damaged chain ends too.
 use mathlib.Core.Path.{_≡_, refl, sym}
 use mathlib.Core.Bool.{Bool, true, false}
-use mathlib.Core.Logic.{_⊎_, inl, inr}
+use mathlib.Core.Logic.{_≢_, _⊎_, inl, inr}
 use mathlib.Core.List.{List, [], _∷_}
-use Prim.Native.Nat.{ℕ, zero, suc, _+_, _≤_, _<_}
+use Prim.Native.Nat.{ℕ, zero, suc, _+_, _-_, _≤_, _<_}
 use native.Mathlib.Omega.{arith}
 use lib.ListN.{length}
 use lib.Dec.{leb, eqb}
@@ -17,6 +17,25 @@ unfoldable pub walk : List ℕ → ℕ → ℕ → List ℕ
 walk nx zero h = []
 walk nx (suc f) zero = []
 walk nx (suc f) (suc h) = suc h ∷ walk nx f (at nx (suc h))
+
+pub walk-zero : (nx : List ℕ) (left : ℕ) → walk nx left 0 ≡ []
+unfolding walk
+walk-zero nx zero = refl
+walk-zero nx (suc f) = refl
+
+-- by the cases of code that walks: no cell, no steps left, a cell and the rest
+pub walk-nil : (nx : List ℕ) (left h : ℕ) → h ≡ 0 → walk nx left h ≡ []
+walk-nil nx left h e = rw e (walk-zero nx left)
+
+pub walk-out : (nx : List ℕ) (left h : ℕ) → left ≡ 0 → walk nx left h ≡ []
+unfolding walk
+walk-out nx left h e = rw e
+
+pub walk-go : (nx : List ℕ) (left h : ℕ) → left ≢ 0 → h ≢ 0 → walk nx left h ≡ h ∷ walk nx (left - 1) (at nx h)
+unfolding walk
+walk-go nx zero h p q = absurd (p refl)
+walk-go nx (suc f) zero p q = absurd (q refl)
+walk-go nx (suc f) (suc h) p q = let e : suc f - 1 ≡ f = omega arith in rw e
 
 -- whether that walk comes to a 0 and meets only cells
 unfoldable pub ends? : List ℕ → ℕ → ℕ → Bool

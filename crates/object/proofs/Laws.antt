@@ -12,7 +12,7 @@ use lib.Seq.{drop-cons, set-out, set-getD, getD-take}
 use borrow.Author.Tests.{eq-eqb, ne-eqb}
 use Rattle.laws.specs.Logic.{pick, pick-yes, pick-no, _and_, _or_, and-false}
 use Rattle.laws.specs.Count.{at}
-use Rattle.laws.specs.Walk.{walk}
+use Rattle.laws.specs.Walk.{walk, walk-nil, walk-go}
 use Rattle.units.specs.declared.ObjectId.{ObjectId}
 use Rattle.types.specs.declared.object.Slot.{Slot}
 use Rattle.types.specs.declared.object.KObject.{KObject}
@@ -36,16 +36,6 @@ pub slotAt-none : (l : List Slot) (n : ℕ) → n ≡ 0 → slotAt l n ≡ noSlo
 unfolding slotAt
 slotAt-none l n e = rw e
 
-pub slotAt-pos : (l : List Slot) (n : ℕ) → n ≢ 0 → slotAt l n ≡ getD l (n - 1) noSlot
-unfolding slotAt
-slotAt-pos l zero p = absurd (p refl)
-slotAt-pos l (suc n) p = let e : suc n - 1 ≡ n = omega arith in rw e
-
-pub slotAt-far : (l : List Slot) (n : ℕ) → length l < n → slotAt l n ≡ noSlot
-unfolding slotAt
-slotAt-far l zero h = refl
-slotAt-far l (suc n) h = List·getD-eq-default l noSlot (omega arith)
-
 pub slotPut-none : (l : List Slot) (n : ℕ) (v : Slot) → n ≡ 0 → slotPut l n v ≡ l
 unfolding slotPut
 slotPut-none l n v e = rw e
@@ -59,12 +49,6 @@ pub slotPut-far : (l : List Slot) (n : ℕ) (v : Slot) → length l < n → slot
 unfolding slotPut
 slotPut-far l zero v h = refl
 slotPut-far l (suc n) v h = set-out l n v (omega arith)
-
--- inside a list what is taken past its end does not matter
-pub get-any : (l : List ℕ) (i a b : ℕ) → i < length l → getD l i a ≡ getD l i b
-get-any [] i a b h = absurd (omega arith)
-get-any (x ∷ l) zero a b h = refl
-get-any (x ∷ l) (suc i) a b h = get-any l i a b (omega arith)
 
 -- ---- tests
 pub or-true : (a : Bool) → a or true ≡ true
@@ -171,7 +155,7 @@ unfolding waiterPut
 waiterPut-far l zero v h = refl
 waiterPut-far l (suc n) v h = sym (set-out l n v (omega arith))
 
-at-waiters : (f : Waiter → ℕ) (l : List Waiter) (r : ℕ) → f noWaiter ≡ 0 → at (map f l) r ≡ f (waiterAt l r)
+pub at-waiters : (f : Waiter → ℕ) (l : List Waiter) (r : ℕ) → f noWaiter ≡ 0 → at (map f l) r ≡ f (waiterAt l r)
 unfolding waiterAt at
 at-waiters f l zero e = sym e
 at-waiters f l (suc i) e = ap (λ d. getD (map f l) i d) (sym e) ∙ List·getD-map f l i noWaiter
@@ -186,22 +170,6 @@ at-address : (l : List Waiter) (r : ℕ) → at (waiterAddresses l) r ≡ waiter
 at-address l r = at-waiters (λ (w : Waiter). w .address) l r refl
 
 -- ---- the walk of a chain, by the code's cases
-module _ (nx : List ℕ) where
-  pub walk-nil : (left h : ℕ) → h ≡ 0 → walk nx left h ≡ []
-  unfolding walk
-  walk-nil zero h e = refl
-  walk-nil (suc f) h e = rw e
-
-  pub walk-out : (left h : ℕ) → left ≡ 0 → walk nx left h ≡ []
-  unfolding walk
-  walk-out left h e = rw e
-
-  walk-go : (left h : ℕ) → left ≢ 0 → h ≢ 0 → walk nx left h ≡ h ∷ walk nx (left - 1) (at nx h)
-  unfolding walk
-  walk-go zero h p q = absurd (p refl)
-  walk-go (suc f) zero p q = absurd (q refl)
-  walk-go (suc f) (suc h) p q = let e : suc f - 1 ≡ f = omega arith in rw e
-
 module _ (ws : List Waiter) (left h : ℕ) (p : left ≢ 0) (q : h ≢ 0) where
   walk-on : walk (waiterNexts ws) left h ≡ h ∷ walk (waiterNexts ws) (left - 1) (waiterAt ws h .next)
   walk-on = rw (← at-next ws h) (walk-go (waiterNexts ws) left h p q)

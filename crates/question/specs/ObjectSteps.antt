@@ -13,12 +13,12 @@ use borrow.Author.Tests.{eq-eqb, ne-eqb, le-leb, lt-leb, le-ltb, lt-ltb}
 use Rattle.laws.specs.Logic.{_and_, _or_, and-false, and-assoc, and-end}
 use Rattle.laws.specs.Count.{at}
 use Rattle.laws.specs.StoreTest.{at-out}
-use Rattle.laws.specs.Walk.{walk, ends?}
+use Rattle.laws.specs.Walk.{walk, ends?, walk-zero, walk-nil, walk-out, walk-go}
 use Rattle.laws.specs.Numbers.{allTo-step, allTo-end}
 use Rattle.laws.specs.Tally.{bump, tally}
 use Rattle.units.specs.declared.ObjectId.{ObjectId}
 use Rattle.types.specs.declared.object.Slot.{Slot}
-use Rattle.sound.specs.View.{ids, noSlot, slotAt}
+use Rattle.sound.specs.View.{ids, noSlot, slotAt-pos}
 use Rattle.sound.specs.Objects.{upTo128}
 use Rattle.sound.specs.Records.{has?, chain?, blanks?}
 use Rattle.question.specs.Linear.{slot?, slots?}
@@ -34,28 +34,7 @@ pub at-none : (l : List ℕ) (r : ℕ) → r ≡ 0 → at l r ≡ 0
 unfolding at
 at-none l r e = rw e
 
--- inside a list what is taken past its end does not matter
-pub get-any : (l : List ℕ) (i a b : ℕ) → i < length l → getD l i a ≡ getD l i b
-get-any [] i a b h = absurd (omega arith)
-get-any (x ∷ l) zero a b h = refl
-get-any (x ∷ l) (suc i) a b h = get-any l i a b (omega arith)
-
 module _ (nx : List ℕ) where
-  pub walk-nil : (left h : ℕ) → h ≡ 0 → walk nx left h ≡ []
-  unfolding walk
-  walk-nil zero h e = refl
-  walk-nil (suc f) h e = rw e
-
-  pub walk-out : (left h : ℕ) → left ≡ 0 → walk nx left h ≡ []
-  unfolding walk
-  walk-out left h e = rw e
-
-  pub walk-go : (left h : ℕ) → left ≢ 0 → h ≢ 0 → walk nx left h ≡ h ∷ walk nx (left - 1) (at nx h)
-  unfolding walk
-  walk-go zero h p q = absurd (p refl)
-  walk-go (suc f) zero p q = absurd (q refl)
-  walk-go (suc f) (suc h) p q = let e : suc f - 1 ≡ f = omega arith in rw e
-
   ends-nil : (left h : ℕ) → h ≡ 0 → ends? nx left h ≡ true
   unfolding ends?
   ends-nil zero h e = eq-eqb h 0 e
@@ -71,21 +50,21 @@ module _ (nx : List ℕ) where
   module _ (m : List ℕ) (left h : ℕ) where
     pub mark-nil : h ≡ 0 → (true ≡ ends? nx left h) × (m ≡ tally 129 m (walk nx left h))
     unfolding tally
-    mark-nil e = (sym (ends-nil left h e), rw (walk-nil left h e))
+    mark-nil e = (sym (ends-nil left h e), rw (walk-nil nx left h e))
 
     pub mark-out : left ≡ 0 → h ≢ 0 → (false ≡ ends? nx left h) × (m ≡ tally 129 m (walk nx left h))
     unfolding ends? tally
-    mark-out e p = (rw e (sym (ne-eqb h 0 p)), rw (walk-out left h e))
+    mark-out e p = (rw e (sym (ne-eqb h 0 p)), rw (walk-out nx left h e))
 
     pub mark-far : left ≢ 0 → h ≢ 0 → length nx < h → (false ≡ ends? nx left h) × (bump 129 m h ≡ tally 129 m (walk nx left h))
     unfolding tally _and_
     mark-far p q f =
-        (rw (ends-go left h p q, lt-leb h (length nx) f), rw (walk-go left h p q, at-out nx h f, walk-nil (left - 1) 0 refl))
+        (rw (ends-go left h p q, lt-leb h (length nx) f), rw (walk-go nx left h p q, at-out nx h f, walk-zero nx (left - 1)))
 
     pub mark-go : left ≢ 0 → h ≢ 0 → h ≤ length nx
         → (ends? nx (left - 1) (at nx h) ≡ ends? nx left h) × (tally 129 (bump 129 m h) (walk nx (left - 1) (at nx h)) ≡ tally 129 m (walk nx left h))
     unfolding tally _and_
-    mark-go p q f = (rw (ends-go left h p q, le-leb h (length nx) f), rw (walk-go left h p q))
+    mark-go p q f = (rw (ends-go left h p q, le-leb h (length nx) f), rw (walk-go nx left h p q))
 
 -- ---- the first record of a walk: what was read of it decides, or the rest does
 module _ (nx ts ad : List ℕ) (left h : ℕ) (p : left ≢ 0) (q : h ≢ 0) (t : ℕ) (te : t ≡ at ts h) where
@@ -148,15 +127,10 @@ module _ {A : Type 0} (f : A → ℕ) where
   map-done l r i h k e = sym (take-all i r k) ∙ e ∙ rw (take-all i l h)
 
 -- ---- tests of every slot, from the last to the first
-slot-at : (l : List Slot) (o : ℕ) → 0 < o → slotAt l o ≡ getD l (o - 1) noSlot
-unfolding slotAt
-slot-at l zero h = absurd (omega arith)
-slot-at l (suc i) h = let e : suc i - 1 ≡ i = omega arith in rw e
-
 pub slots-step : (l : List Slot) (c m : List ℕ) (o : ℕ) → 0 < o
     → slots? l c m o ≡ slot? (getD l (o - 1) noSlot) (getD c o 0) (getD m o 0) and slots? l c m (o - 1)
 unfolding slots?
-slots-step l c m o h = allTo-step _ o h ∙ rw (slot-at l o h)
+slots-step l c m o h = allTo-step _ o h ∙ rw (slotAt-pos l o (omega arith))
 
 pub slots-end : (l : List Slot) (c m : List ℕ) (o : ℕ) → o ≤ 0 → slots? l c m o ≡ true
 unfolding slots?
@@ -165,7 +139,7 @@ slots-end l c m o h = allTo-end _ o h
 pub contents-step : (n : ℕ) (d : List ℕ) (l : List Slot) (o : ℕ) → 0 < o
     → contentsBy? n d l o ≡ contentBy? n d (getD l (o - 1) noSlot .object) and contentsBy? n d l (o - 1)
 unfolding contentsBy?
-contents-step n d l o h = allTo-step _ o h ∙ rw (slot-at l o h)
+contents-step n d l o h = allTo-step _ o h ∙ rw (slotAt-pos l o (omega arith))
 
 pub contents-end : (n : ℕ) (d : List ℕ) (l : List Slot) (o : ℕ) → o ≤ 0 → contentsBy? n d l o ≡ true
 unfolding contentsBy?

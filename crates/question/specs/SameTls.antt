@@ -1,8 +1,7 @@
 -- TLS slots counted into an array are counted as the definition counts them.
 use mathlib.Core.Path.{_≡_, refl, _∙_}
-use mathlib.Core.Bool.{Bool, true, false}
-use mathlib.Core.List.{List, [], _∷_}
-use Prim.Native.Nat.{ℕ, zero, suc, _+_, _-_, _≤_, _<_}
+use mathlib.Core.List.{List}
+use Prim.Native.Nat.{zero, _+_, _-_, _<_}
 use native.Mathlib.Omega.{arith}
 use lib.Dec.{leb}
 use lib.ListN.{length, getD, replicate}
@@ -10,18 +9,8 @@ use Rattle.laws.specs.Numbers.{allBelow, allTo-same}
 use Rattle.laws.specs.Count.{count}
 use Rattle.laws.specs.Tally.{tally, tally-get, zero-get, zero-le}
 use Rattle.types.specs.declared.thread.Thread.{Thread}
-use Rattle.types.specs.Thread.{isDead}
-use Rattle.sound.specs.Tls.{heldIf, held}
+use Rattle.sound.specs.Tls.{held, held-length}
 use Rattle.question.specs.Linear.{once32?}
-
-if-length : (b : Bool) (s : ℕ) (l : List ℕ) → length (heldIf b s l) ≤ suc (length l)
-if-length true s l = omega arith
-if-length false s l = omega arith
-
-held-length : (ts : List Thread) → length (held ts) ≤ length ts
-unfolding held
-held-length [] = omega arith
-held-length (t ∷ ts) = omega (arith, if-length (isDead (t .status)) (t .tls) (held ts), held-length ts)
 
 pub once-is : (ts : List Thread) → length ts ≡ 32 → once32? (tally 129 (replicate 129 0) (held ts)) ≡ allBelow 32 (λ s. leb (count s (held ts)) 1)
 unfolding once32?

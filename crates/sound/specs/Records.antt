@@ -1,10 +1,10 @@
 -- "record chains, the free one included, ending, disjoint and together all 64, no (thread, address) twice in one arbiter's".
 -- A record on the free chain is blank, as all that is unused.
-use mathlib.Core.Path.{_≡_, refl, ap, sym, subst, _∙_}
+use mathlib.Core.Path.{_≡_, ap, sym, subst, _∙_}
 use mathlib.Core.Bool.{Bool, true, false, not}
 use mathlib.Core.Logic.{_⊎_, inl, inr}
 use mathlib.Core.List.{List, [], _∷_}
-use Prim.Native.Nat.{ℕ, zero, suc, _+_, _≤_, _<_}
+use Prim.Native.Nat.{ℕ, _+_, _≤_, _<_}
 use native.Mathlib.Omega.{arith}
 use lib.Dec.{eqb, ltb}
 use lib.ListN.{length}
@@ -12,7 +12,7 @@ use Rattle.laws.specs.Logic.{_and_, _or_, lt-cases}
 use Rattle.laws.specs.Test.{Test, t-yes, t-eq, t-lt, t-and, t-as, t-not}
 use Rattle.laws.specs.Numbers.{allTo}
 use Rattle.laws.specs.Count.{at}
-use Rattle.laws.specs.Walk.{walk}
+use Rattle.laws.specs.Walk.{walk, walk-zero}
 use Rattle.laws.specs.Pool.{Pool}
 use Rattle.laws.specs.PoolTest.{pool?, t-pool}
 use Rattle.types.specs.declared.object.Slot.{Slot}
@@ -78,11 +78,6 @@ records? n s =
     chained? s
     and (allTo 128 (λ o. chain? (waiterThreads (s .waiters)) (waiterAddresses (s .waiters)) n (chainOf s o))
     and blanks? (waiterThreads (s .waiters)) (waiterAddresses (s .waiters)) (freeChain s))
-
-walk-zero : (nx : List ℕ) (n : ℕ) → walk nx n 0 ≡ []
-unfolding walk
-walk-zero nx zero = refl
-walk-zero nx (suc n) = refl
 
 pub t-records : (n : ℕ) (s : ObjectStore) → length (s .slots) ≡ 128 → Test (records? n s) (RecordsOk n s)
 unfolding records? chained?

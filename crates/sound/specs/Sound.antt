@@ -43,14 +43,14 @@ pub record Sound (k : Kernel) : Type 0 where
   pub records : RecordsOk (k .«thread_count») (k .objects)
 
 -- ---- no list names a number past the last slot
-zeros-far : (o : ℕ) (l : List ℕ) → 0 < o → Zeros l → count o l ≡ 0
+pub zeros-count : (o : ℕ) (l : List ℕ) → 0 < o → Zeros l → count o l ≡ 0
 unfolding count
-zeros-far o [] p z = refl
-zeros-far o (x ∷ xs) p z = omega (arith, ind-other x o (omega (arith, z .0)), zeros-far o xs p (z .1))
+zeros-count o [] p z = refl
+zeros-count o (x ∷ xs) p z = omega (arith, ind-other x o (omega (arith, z .0)), zeros-count o xs p (z .1))
 
 places-far : (o n : ℕ) (l : List ℕ) → 128 < o → Places n l → count o l ≡ 0
 unfolding count
-places-far o zero l p z = zeros-far o l (omega arith) z
+places-far o zero l p z = zeros-count o l (omega arith) z
 places-far o (suc n) [] p z = absurd z
 places-far o (suc n) (x ∷ xs) p z = omega (arith, ind-other x o (omega (arith, z .1 .0)), places-far o n xs p (z .1 .1))
 
@@ -58,7 +58,7 @@ place-far : (o n : ℕ) (c : ThreadOption) (i : ℕ) (t : Thread) → 128 < o �
 place-far o n c i t p h =
     elim (lt-cases i n) [
       | inl l ↦ places-far o (t .«wait_count») (ids (t .«wait_objects»)) p (h .used l .list)
-      | inr l ↦ zeros-far o (ids (t .«wait_objects»)) (omega arith) (h .unused l .1)
+      | inr l ↦ zeros-count o (ids (t .«wait_objects»)) (omega arith) (h .unused l .1)
     ]
 
 each-far : (o : ℕ) (ts : List Thread) → ((i : ℕ) → i < length ts → count o (ids (threadAt ts i .«wait_objects»)) ≡ 0) → countAll o (lists ts) ≡ 0

@@ -27,6 +27,16 @@ unfoldable pub held : List Thread → List ℕ
 held [] = []
 held (t ∷ ts) = heldIf (isDead (t .status)) (t .tls) (held ts)
 
+-- no more than there are threads
+pub if-length : (b : Bool) (s : ℕ) (l : List ℕ) → length (heldIf b s l) ≤ suc (length l)
+if-length true s l = omega arith
+if-length false s l = omega arith
+
+pub held-length : (ts : List Thread) → length (held ts) ≤ length ts
+unfolding held
+held-length [] = omega arith
+held-length (t ∷ ts) = omega (arith, if-length (isDead (t .status)) (t .tls) (held ts), held-length ts)
+
 -- one turn of a loop over the threads
 pub held-step : (ts : List Thread) (i : ℕ) → i < length ts
     → held (drop i ts) ≡ heldIf (isDead (getD ts i noThread .status)) (getD ts i noThread .tls) (held (drop (i + 1) ts))
@@ -36,6 +46,12 @@ held-step ts i h = rw (drop-cons ts i noThread h, add-one)
 pub held-end : (ts : List Thread) (i : ℕ) → length ts ≤ i → held (drop i ts) ≡ []
 unfolding held
 held-end ts i h = rw (drop-of-length-le ts h)
+
+-- a list of numbers below n has no number from n on
+pub far : (n : ℕ) (l : List ℕ) → All (λ x. x < n) l → (s : ℕ) → n ≤ s → count s l ≡ 0
+unfolding count
+far n [] a s h = refl
+far n (x ∷ xs) a s h = omega (arith, ind-other x s (omega (arith, a .0)), far n xs (a .1) s h)
 
 unfoldable pub below? : ℕ → List ℕ → Bool
 below? n [] = true
@@ -53,11 +69,6 @@ pub record TlsOk (ts : List Thread) (next : ℕ) : Type 0 where
   pub most : next ≤ 32
   pub below : All (λ s. s < next) (held ts)
   pub once : (s : ℕ) → count s (held ts) ≤ 1
-
-far : (n : ℕ) (l : List ℕ) → All (λ x. x < n) l → (s : ℕ) → n ≤ s → count s l ≡ 0
-unfolding count
-far n [] a s h = refl
-far n (x ∷ xs) a s h = omega (arith, ind-other x s (omega (arith, a .0)), far n xs (a .1) s h)
 
 pub t-tls : (ts : List Thread) (next : ℕ) → Test (tls? ts next) (TlsOk ts next)
 unfolding tls?

@@ -1,14 +1,13 @@
 -- What the clauses of question 2 look at: columns of the tables, and the cells of slots.
 use mathlib.Core.Path.{_≡_, refl, ap, sym, _∙_}
 use mathlib.Core.Bool.{Bool, true, false}
-use mathlib.Core.Logic.{_⊎_, inl, inr}
+use mathlib.Core.Logic.{_≢_, inl, inr}
 use mathlib.Core.List.{List, [], _∷_, map}
-use Prim.Native.Nat.{ℕ, zero, suc, _+_, _-_, _≤_, _<_}
+use Prim.Native.Nat.{ℕ, zero, suc, _+_, _-_, _<_}
 use native.Mathlib.Omega.{arith}
 use lib.ListN.{length, getD, List·getD-map, List·getD-eq-default}
-use Rattle.laws.specs.Logic.{lt-cases}
 use Rattle.laws.specs.Count.{at}
-use Rattle.laws.specs.Numbers.{allTo, t-allTo}
+use Rattle.laws.specs.Numbers.{allTo, t-allTo, cell-cases}
 use Rattle.laws.specs.Test.{Test, t-as}
 use Rattle.units.specs.declared.ObjectId.{ObjectId}
 use Rattle.types.specs.declared.thread.Thread.{Thread}
@@ -99,17 +98,19 @@ unfolding slotAt at
 at-slots f l zero e = sym e
 at-slots f l (suc i) e = ap (λ d. getD (map f l) i d) (sym e) ∙ List·getD-map f l i noSlot
 
--- ---- a test of every slot
-slot-out : (l : List Slot) (i : ℕ) → (0 < i → length l < i) → slotAt l i ≡ noSlot
+-- a number that is not 0 has the slot before it in the list; 0 and a number past the end have none
+pub slotAt-pos : (l : List Slot) (n : ℕ) → n ≢ 0 → slotAt l n ≡ getD l (n - 1) noSlot
 unfolding slotAt
-slot-out l zero h = refl
-slot-out l (suc i) h = List·getD-eq-default l noSlot (omega (arith, h (omega arith)))
+slotAt-pos l zero p = absurd (p refl)
+slotAt-pos l (suc n) p = let e : suc n - 1 ≡ n = omega arith in rw e
 
-in-cases : (n i : ℕ) → ((0 < i) × (i ≤ n)) ⊎ (0 < i → n < i)
-in-cases n zero = inr (λ p. absurd (omega arith))
-in-cases n (suc i) = elim (lt-cases n (suc i)) [ inl h ↦ inr (λ p. h) | inr h ↦ inl (omega arith, h) ]
+pub slotAt-out : (l : List Slot) (i : ℕ) → (0 < i → length l < i) → slotAt l i ≡ noSlot
+unfolding slotAt
+slotAt-out l zero h = refl
+slotAt-out l (suc i) h = List·getD-eq-default l noSlot (omega (arith, h (omega arith)))
 
+-- ---- a test of every slot
 pub t-slots : (n : ℕ) (l : List Slot) {f : ℕ → Bool} {P : ℕ → Type 0} → length l ≡ n → ((i : ℕ) → Test (f i) (P i)) → ((i : ℕ) → slotAt l i ≡ noSlot → P i)
     → Test (allTo n f) ((i : ℕ) → P i)
 t-slots n l e t out =
-    t-as (λ h i. elim (in-cases n i) [ inl k ↦ h i (k .0) (k .1) | inr k ↦ out i (slot-out l i (λ p. omega (arith, k p))) ]) (λ h i a b. h i) (t-allTo n t)
+    t-as (λ h i. elim (cell-cases n i) [ inl k ↦ h i (k .0) (k .1) | inr k ↦ out i (slotAt-out l i (λ p. omega (arith, k p))) ]) (λ h i a b. h i) (t-allTo n t)

@@ -9,7 +9,7 @@ use lib.ListN.{length, set, getD, length-map, List·getD-map}
 use Rattle.laws.specs.Logic.{lt-cases}
 use Rattle.laws.specs.Count.{ind-cases, ind-eq, count, countAll, at}
 use Rattle.laws.specs.Chain.{IsChain, chain-frame}
-use Rattle.laws.specs.Walk.{walk, chain-walk, chain-fits}
+use Rattle.laws.specs.Walk.{walk, walk-zero, chain-walk, chain-fits}
 use Rattle.laws.specs.Pool.{cell1-le, count-le-all, chains-get}
 use Rattle.types.specs.declared.object.Slot.{Slot}
 use Rattle.types.specs.declared.object.Waiter.{Waiter}
@@ -22,11 +22,6 @@ use Rattle.object.specs.Waiters.{unlinked}
 use Rattle.soundness.specs.Slots.{headAt, map-set, slot-same, slot-other}
 use Rattle.soundness.specs.Unlink.{unhook, kept, gone, blanked, Hooked, unhook-ok, pool-drop-at, kept-none, gone-count, blanked-kept, blanked-gone}
 use Rattle.soundness.specs.Waiters.{unlink-next, unlink-threads, unlink-addresses, length-unlink}
-
-pub walk-zero : (nx : List ℕ) (n : ℕ) → walk nx n 0 ≡ []
-unfolding walk
-walk-zero nx zero = refl
-walk-zero nx (suc n) = refl
 
 count-two : (x : ℕ) (cs : List (List ℕ)) (j k : ℕ) → j ≢ k → count x (getD cs j []) + count x (getD cs k []) ≤ countAll x cs
 unfolding countAll count

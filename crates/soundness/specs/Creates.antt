@@ -31,13 +31,14 @@ use Rattle.object.specs.Waiters.{retain, ofOthers, dropThread}
 use Rattle.object.specs.Store.{release}
 use Rattle.thread.specs.Thread.{newThread}
 use Rattle.thread.specs.Threads.{least, tlsSlot, unnamed, endedFrom, endedThread, forgetThread, createAt, createThread}
+use Rattle.thread.specs.Marks.{least-is, least-le}
 use Rattle.soundness.specs.Objects.{ObOk, ok-as, release-ok, release-full, release-overflow}
 use Rattle.soundness.specs.Kept.{unkept, unkept-ok}
 use Rattle.soundness.specs.Records.{ChainsOk, chain-more, release-chains, dropThread-ok, dropThread-chains, dropThread-full}
 use Rattle.soundness.specs.Each.{each-release, each-dropThread, content-free, content-head}
 use Rattle.soundness.specs.Fits.{Word, StoreFits, release-fits, unkept-fits, dropThread-fits}
-use Rattle.soundness.specs.Threads.{Others, threads-set, dead-list, names-set, content-more, live-set}
-use Rattle.soundness.specs.Tls.{least-is, free-from, tls-new}
+use Rattle.soundness.specs.Threads.{Others, threads-set, dead-list, names-same, content-more, live-set}
+use Rattle.soundness.specs.Tls.{free-from, tls-new}
 use Rattle.soundness.specs.Whole.{Parts, sound-parts, parts-sound}
 
 -- ---- a store, all that a sound state asks of it
@@ -122,13 +123,6 @@ pub ended-from : (k : Kernel) (n t : ℕ) → EndedFrom k n t (endedFrom k n t)
 unfolding endedFrom
 ended-from k zero t = record { to = omega arith; dead = λ l. absurd (omega arith); unnamed = λ l. absurd (omega arith) }
 ended-from k (suc n) t = ended-as k n t (isDead (threadAt (k .threads) t .status) and unnamed (k .objects) t) refl (ended-from k n (t + 1))
-
-pub least-le : (a b : ℕ) → least a b ≤ b
-least-le a b = go (ltb a b) refl
-  where
-    go : (t : Bool) → ltb a b ≡ t → pick t a b ≤ b
-    go true e = omega (arith, ltb-true a b e)
-    go false e = omega arith
 
 pub ended-thread : (k : Kernel) → k .«thread_count» ≤ 32 → EndedFrom k (k .«thread_count») 0 (endedThread k)
 unfolding endedThread
@@ -225,7 +219,7 @@ module _ (k : Kernel) (entry stack priority processor : ℕ) (p : Parts k) (we :
 
   made-names : (o : ℕ) → 0 < o → names (k .handles) (set (k .threads) (endedThread k) made) o ≡ names (k .handles) (k .threads) o
   made-names =
-      names-set (k .handles) (k .threads) (endedThread k) made place-at
+      names-same (k .handles) (k .threads) (endedThread k) made place-at
       (dead-list (k .«thread_count») (k .«current_thread») (endedThread k) (threadAt (k .threads) (endedThread k)) place-dead (p .threads .each (endedThread k) place-in))
       (new-zeros entry stack (least priority 63) processor (tlsSlot k) (k .«next_guest_id»))
 

@@ -66,10 +66,11 @@ slot-of x r p f w = (f .kind, (w, (flag-fits p, (f .a, (f .b, (f .c, (f .x, (f .
 pub of-slot : (x : Slot) → SlotFits x → KeepsFit (x .object)
 of-slot x f = record { kind = f .0; a = f .1 .1 .1 .0; b = f .1 .1 .1 .1 .0; c = f .1 .1 .1 .1 .1 .0; x = f .1 .1 .1 .1 .1 .1 .0; y = f .1 .1 .1 .1 .1 .1 .1 .0 }
 
-z4 : 0 < 256 ^ 4
+-- 0 fits a field of 4 bytes, and one of 8
+pub z4 : 0 < 256 ^ 4
 z4 = omega arith
 
-z8 : 0 < 256 ^ 8
+pub z8 : 0 < 256 ^ 8
 z8 = omega arith
 
 pub free-fits : (n : ℕ) → Word n → KeepsFit (Free n)

@@ -1,12 +1,12 @@
 -- Names: how many there can be, what a thread's place anew makes of them, and the objects of a wait list.
-use mathlib.Core.Path.{_≡_, refl, ap, sym}
+use mathlib.Core.Path.{_≡_, ap, sym}
 use mathlib.Core.Logic.{inl, inr}
 use mathlib.Core.List.{List, [], _∷_}
 use Prim.Native.Nat.{ℕ, zero, suc, _+_, _*_, _≤_, _<_}
 use native.Mathlib.Omega.{arith}
 use lib.ListN.{length, set, getD, take, length-map, List·getD-map}
 use Rattle.laws.specs.All.{All}
-use Rattle.laws.specs.Count.{count, countAll, ind, ind-cases, ind-other}
+use Rattle.laws.specs.Count.{count, countAll, ind, ind-cases}
 use Rattle.laws.specs.Pool.{countAll-set}
 use Rattle.units.specs.declared.ObjectId.{ObjectId}
 use Rattle.types.specs.declared.thread.Thread.{Thread}
@@ -15,8 +15,9 @@ use Rattle.types.specs.declared.object.HandleTable.{HandleTable}
 use Rattle.types.specs.declared.object.ObjectStore.{ObjectStore}
 use Rattle.block.proofs.Fits.{ThreadFits}
 use Rattle.sound.specs.View.{ids, handled, lists, noThread, threadAt}
-use Rattle.sound.specs.Threads.{Zeros, Places}
+use Rattle.sound.specs.Threads.{Places}
 use Rattle.sound.specs.Objects.{names, keptNames}
+use Rattle.sound.specs.Sound.{zeros-count}
 use Rattle.soundness.specs.Slots.{map-set}
 use Rattle.soundness.specs.Objects.{Pos}
 
@@ -60,11 +61,6 @@ waits-set i ts t v h =
     omega (arith, ap (countAll i) (map-set f ts t v), countAll-set i (lists ts) t (f v) l, ap (count i) e)
 
 -- ---- the objects of a wait list: those before the zeros
-pub zeros-count : (i : ℕ) (l : List ℕ) → 0 < i → Zeros l → count i l ≡ 0
-unfolding count
-zeros-count i [] p z = refl
-zeros-count i (x ∷ xs) p z = omega (arith, ind-other x i (omega (arith, z .0)), zeros-count i xs p (z .1))
-
 pub places-count : (i n : ℕ) (l : List ℕ) → 0 < i → Places n l → count i (take n l) ≡ count i l
 unfolding count
 places-count i zero l p z = sym (zeros-count i l p z)

@@ -7,7 +7,7 @@ use native.Mathlib.Omega.{arith}
 use lib.ListN.{length, set, getD, length-map}
 use Rattle.laws.specs.Count.{ind-cases, ind-same, count, countAll, count-append, at, put, Cell, at-put-other}
 use Rattle.laws.specs.Chain.{IsChain, chain-frame, hang, headOr, length-hang, hang-frame, chain-hang}
-use Rattle.laws.specs.Walk.{walk, chain-walk, chain-fits}
+use Rattle.laws.specs.Walk.{walk, walk-zero, chain-walk, chain-fits}
 use Rattle.laws.specs.Pool.{pool-take-at}
 use Rattle.types.specs.declared.object.Slot.{Slot}
 use Rattle.types.specs.declared.object.Waiter.{Waiter}
@@ -17,9 +17,10 @@ use Rattle.sound.specs.View.{heads, waiterNexts, waiterThreads, waiterAddresses
 use Rattle.sound.specs.Records.{Chained, chainOf, freeChain, Blanks}
 use Rattle.object.specs.Slots.{slotPut}
 use Rattle.object.specs.Waiters.{waiterAt, firstOf, hung}
+use Rattle.object.proofs.Laws.{at-waiters}
 use Rattle.soundness.specs.Slots.{headAt, map-set, slot-same, slot-other}
-use Rattle.soundness.specs.Waiters.{at-waiters, hung-next, hung-column, length-hung, first-head}
-use Rattle.soundness.specs.Chains.{walk-zero, count-no-chain, blanks-at, at-blanks, len64, once-two, once-free, chain-is, chain-at, free-at, same-walk}
+use Rattle.soundness.specs.Waiters.{hung-next, hung-column, length-hung, first-head}
+use Rattle.soundness.specs.Chains.{count-no-chain, blanks-at, at-blanks, len64, once-two, once-free, chain-is, chain-at, free-at, same-walk}
 
 abbrev tailOf : List ℕ → List ℕ
 tailOf [] = []

@@ -10,7 +10,7 @@ use borrow.Author.Tests.{eqb-false, ne-eqb}
 use lib.ListN.{length, length-map, List·getD-eq-default}
 use Rattle.laws.specs.Logic.{pick, _and_, _or_, or-false, false-true, lt-cases}
 use Rattle.laws.specs.Count.{ind, ind-cases, ind-same, count, at, Cell, at-put-same, at-put-other}
-use Rattle.laws.specs.Walk.{walk}
+use Rattle.laws.specs.Walk.{walk, walk-zero}
 use Rattle.types.specs.declared.object.KObject.{KObject}
 use Rattle.types.specs.declared.object.KObject.the-variants.{Free, Thread, Event, Mutex, Semaphore, Timer, AddressArbiter, Process, ResourceLimit}
 use Rattle.types.specs.declared.object.Slot.{Slot}
@@ -23,10 +23,10 @@ use Rattle.sound.specs.Records.{chainOf, has?, ChainOk, RecordsOk}
 use Rattle.object.specs.Slots.{withObject}
 use Rattle.object.specs.Waiters.{waiterAt, unlink, withHead, unlinked, retain, ofOthers, dropThread, firstOf, isArbiter, pushed, push}
 use Rattle.object.specs.Store.{release-if, release, releases}
+use Rattle.object.proofs.Laws.{at-waiters}
 use Rattle.soundness.specs.Slots.{kindAt, headAt, nextAt, refAt, map-slotPut-same, length-slotPut, slot-f}
 use Rattle.soundness.specs.Unlink.{keepIf, kept}
-use Rattle.soundness.specs.Waiters.{at-waiters}
-use Rattle.soundness.specs.Chains.{walk-zero, Dropped, dropped, dropped-blanks}
+use Rattle.soundness.specs.Chains.{Dropped, dropped, dropped-blanks}
 use Rattle.soundness.specs.Objects.{ObOk, Fine, ok-as, Pos, release-live, release-ok, release-dropped}
 use Rattle.soundness.specs.Same.{SameRecs, chain-same}
 use Rattle.soundness.specs.Pushed.{Pushed, pushed-of, pushed-blanks}

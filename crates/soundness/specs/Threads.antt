@@ -23,7 +23,8 @@ use Rattle.types.specs.Thread.{isDead}
 use Rattle.sound.specs.View.{ids, lists, noThread, threadAt}
 use Rattle.sound.specs.Threads.{Zeros, Places, Only, RunOk, ThreadOk, Blank, PlaceOk, CurrentOk, ThreadsOk}
 use Rattle.sound.specs.Objects.{names, Live, OwnerOk, ContentOk}
-use Rattle.soundness.specs.Names.{waits-set, zeros-count}
+use Rattle.sound.specs.Sound.{zeros-count}
+use Rattle.soundness.specs.Names.{waits-set}
 
 -- ---- one place anew
 pub thread-same : (ts : List th.Thread) (i : ℕ) (v : th.Thread) → i < length ts → threadAt (set ts i v) i ≡ v
@@ -81,10 +82,10 @@ dead-list n c i t d p =
     count-zero Dormant m e o = o
 
 -- names after a place without a list gets a thread without one
-pub names-set : (t : HandleTable) (ts : List th.Thread) (i : ℕ) (v : th.Thread) → i < length ts → Zeros (ids (threadAt ts i .«wait_objects»)) → Zeros (ids (v .«wait_objects»))
+pub names-same : (t : HandleTable) (ts : List th.Thread) (i : ℕ) (v : th.Thread) → i < length ts → Zeros (ids (threadAt ts i .«wait_objects»)) → Zeros (ids (v .«wait_objects»))
     → (o : ℕ) → 0 < o → names t (set ts i v) o ≡ names t ts o
 unfolding names
-names-set t ts i v l a b o p =
+names-same t ts i v l a b o p =
     omega (arith, waits-set o ts i v l, zeros-count o (ids (threadAt ts i .«wait_objects»)) p a, zeros-count o (ids (v .«wait_objects»)) p b)
 
 -- ---- what objects say of threads

@@ -16,9 +16,10 @@ use Rattle.types.specs.declared.thread.Thread.{Thread}
 use Rattle.types.specs.declared.kernel.Kernel.{Kernel}
 use Rattle.types.specs.Thread.{isDead}
 use Rattle.sound.specs.View.{noThread, threadAt}
-use Rattle.sound.specs.Tls.{heldIf, held, TlsOk}
+use Rattle.sound.specs.Tls.{heldIf, held, if-length, held-length, far, TlsOk}
 use Rattle.tally.specs.Lists.{slotOf}
 use Rattle.thread.specs.Threads.{least, freeFrom, tlsSlot}
+use Rattle.thread.specs.Marks.{least-is}
 
 -- ---- the slots held after one thread is another
 count-if : (s : ℕ) (b : Bool) (x : ℕ) (l : List ℕ) → count s (heldIf b x l) ≡ count s (heldIf b x []) + count s l
@@ -67,17 +68,7 @@ held-same [] i v h d e = refl
 held-same (t ∷ ts) zero v h d e = rw (d, e)
 held-same (t ∷ ts) (suc i) v h d e = ap (heldIf (isDead (t .status)) (t .tls)) (held-same ts i v (omega arith) d e)
 
--- ---- at most as many slots are held as threads live
-if-length : (b : Bool) (x : ℕ) (l : List ℕ) → length (heldIf b x l) ≤ suc (length l)
-if-length true x l = omega arith
-if-length false x l = omega arith
-
-held-length : (ts : List Thread) → length (held ts) ≤ length ts
-unfolding held
-held-length [] = omega arith
-held-length (t ∷ ts) = omega (arith, if-length (isDead (t .status)) (t .tls) (held ts), held-length ts)
-
--- with one of them Dead, one fewer
+-- ---- with a thread Dead, fewer slots are held than there are threads
 held-fewer : (ts : List Thread) (i : ℕ) → i < length ts → isDead (threadAt ts i .status) ≡ true → suc (length (held ts)) ≤ length ts
 unfolding held
 held-fewer [] i h d = absurd (omega arith)
@@ -139,18 +130,6 @@ pub free-from : (l : List ℕ) (n s : ℕ) → FreeSlot l n s (freeFrom l n s)
 unfolding freeFrom
 free-from l zero s = record { from = omega arith; to = omega arith; free = λ q. absurd (omega arith); held = λ i a b. absurd (omega arith) }
 free-from l (suc n) s = free-as l n s (eqb (count s l) 0) refl (free-from l n (s + 1))
-
-pub least-is : (a b : ℕ) → a ≤ b → least a b ≡ a
-least-is a b h = go (ltb a b) refl
-  where
-    go : (t : Bool) → ltb a b ≡ t → pick t a b ≡ a
-    go true e = refl
-    go false e = omega (arith, ltb-false a b e)
-
-far : (n : ℕ) (l : List ℕ) → All (λ x. x < n) l → (s : ℕ) → n ≤ s → count s l ≡ 0
-unfolding count
-far n [] a s h = refl
-far n (x ∷ xs) a s h = omega (arith, ind-other x s (omega (arith, a .0)), far n xs (a .1) s h)
 
 -- ---- a thread that holds the slot found comes to a Dead place
 module _ (k : Kernel) (h : TlsOk (k .threads) (k .«next_tls_slot»)) (nt : length (k .threads) ≡ 32) (i : ℕ) (l : i < 32) (d : isDead (threadAt (k .threads) i .status) ≡ true) where

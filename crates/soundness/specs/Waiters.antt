@@ -1,11 +1,11 @@
 -- The columns of the records: what `unlink` and `hung` make of each.
-use mathlib.Core.Path.{_≡_, refl, ap, sym, _∙_}
+use mathlib.Core.Path.{_≡_, refl, _∙_}
 use mathlib.Core.Bool.{Bool, true, false}
 use mathlib.Core.List.{List, [], _∷_, map}
 use Prim.Native.Nat.{ℕ, zero, suc}
-use lib.ListN.{length, getD, length-set, List·getD-map}
+use lib.ListN.{length, length-set}
 use lib.Seq.{map-set-same}
-use Rattle.laws.specs.Count.{at, put}
+use Rattle.laws.specs.Count.{put}
 use Rattle.laws.specs.Chain.{hang, headOr}
 use Rattle.laws.specs.All.{All, all-set}
 use Rattle.types.specs.declared.object.Waiter.{Waiter}
@@ -29,11 +29,6 @@ pub length-waiterPut : (l : List Waiter) (r : ℕ) (v : Waiter) → length (wait
 unfolding waiterPut
 length-waiterPut l zero v = refl
 length-waiterPut l (suc i) v = length-set l i v
-
-pub at-waiters : (f : Waiter → ℕ) (l : List Waiter) (r : ℕ) → f noWaiter ≡ 0 → at (map f l) r ≡ f (waiterAt l r)
-unfolding waiterAt at
-at-waiters f l zero e = sym e
-at-waiters f l (suc i) e = ap (λ d. getD (map f l) i d) (sym e) ∙ List·getD-map f l i noWaiter
 
 pub all-waiterPut : (P : Waiter → Type 0) (l : List Waiter) (r : ℕ) (v : Waiter) → P v → All P l → All P (waiterPut l r v)
 unfolding waiterPut

@@ -11,9 +11,10 @@ use Rattle.types.specs.declared.object.ObjectStore.{ObjectStore}
 use Rattle.sound.specs.View.{ids, threadAt}
 use Rattle.sound.specs.Threads.{Zeros, Places}
 use Rattle.sound.specs.Objects.{names, keptNames}
+use Rattle.sound.specs.Sound.{zeros-count}
 use Rattle.object.specs.Store.{addRefs, releases}
 use Rattle.soundness.specs.Objects.{ObOk, ok-as, Known, addRefs-ok, releases-ok}
-use Rattle.soundness.specs.Names.{waits-set, zeros-count, places-count, places-pos}
+use Rattle.soundness.specs.Names.{waits-set, places-count, places-pos}
 
 module _ (t : HandleTable) (ts : List Thread) (i : ℕ) (v : Thread) (l : i < length ts) where
   pub names-set : (j : ℕ) → names t (set ts i v) j + count j (ids (threadAt ts i .«wait_objects»)) ≡ names t ts j + count j (ids (v .«wait_objects»))

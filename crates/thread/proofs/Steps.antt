@@ -4,8 +4,7 @@ use mathlib.Core.Bool.{Bool, true, false}
 use mathlib.Core.List.{List, [], _∷_, map}
 use Prim.Native.Nat.{ℕ, zero, suc, _+_, _-_, _≤_, _<_}
 use native.Mathlib.Omega.{arith}
-use lib.Dec.{eqb, ltb}
-use borrow.Author.Tests.{ltb-true}
+use lib.Dec.{eqb}
 use lib.ListN.{length, getD, set, List·getD-eq-default}
 use Rattle.laws.specs.Logic.{pick}
 use Rattle.laws.specs.Count.{count}
@@ -18,7 +17,7 @@ use Rattle.types.specs.declared.object.ObjectStore.{ObjectStore}
 use Rattle.types.specs.declared.kernel.Kernel.{Kernel}
 use Rattle.sound.specs.Tls.{held}
 use Rattle.thread.specs.Threads.{least, freeFrom, tlsSlot, releaseWaits}
-use Rattle.thread.specs.Marks.{freeMarked, slotIndex, ended?, idAt, endedIn}
+use Rattle.thread.specs.Marks.{least-le, freeMarked, slotIndex, ended?, idAt, endedIn}
 
 pub free-step : (m : List ℕ) (n i : ℕ) → i < n → freeMarked m (n - i) i ≡ pick (eqb (getD m i 0) 0) i (freeMarked m (n - (i + 1)) (i + 1))
 unfolding freeMarked
@@ -37,13 +36,6 @@ module _ (ts : List Thread) (kept : List ObjectId) (slots : List Slot) where
   pub ended-end : (n i : ℕ) → n ≤ i → endedIn ts kept slots (n - i) i ≡ i
   unfolding endedIn
   ended-end n i h = let e : n - i ≡ 0 = omega arith in rw e
-
-pub least-le : (a b : ℕ) → least a b ≤ b
-least-le a b = go (ltb a b) refl
-  where
-    go : (t : Bool) → ltb a b ≡ t → pick t a b ≤ b
-    go true e = omega (arith, ltb-true a b e)
-    go false e = omega arith
 
 -- the first i cells of a list changed by f
 unfoldable pub mapTo : {A : Type 0} → (A → A) → ℕ → List A → List A

@@ -2,11 +2,11 @@
 use mathlib.Core.Path.{_≡_, refl, ap, sym, _∙_}
 use mathlib.Core.Bool.{Bool, true, false}
 use mathlib.Core.Logic.{_⊎_, inl, inr}
-use mathlib.Core.List.{List, [], _∷_}
-use Prim.Native.Nat.{ℕ, zero, suc, _+_, _-_, _≤_, _<_}
+use mathlib.Core.List.{List}
+use Prim.Native.Nat.{ℕ, zero, suc, _+_, _-_, _≤_}
 use native.Mathlib.Omega.{arith}
 use lib.Dec.{eqb, leb, ltb}
-use lib.ListN.{length, getD, replicate, length-map, List·getD-map, List·getD-eq-default}
+use lib.ListN.{length, getD, replicate, length-map}
 use borrow.Author.Tests.{eq-eqb, ne-eqb, lt-ltb, le-ltb, eqb-true, eqb-false, ltb-true, ltb-false}
 use Rattle.laws.specs.Logic.{pick, _and_, _or_, lt-cases}
 use Rattle.laws.specs.Count.{count}
@@ -17,25 +17,32 @@ use Rattle.types.specs.declared.object.Slot.{Slot}
 use Rattle.types.specs.declared.object.ObjectStore.{ObjectStore}
 use Rattle.types.specs.declared.kernel.Kernel.{Kernel}
 use Rattle.types.specs.Thread.{isDead}
-use Rattle.sound.specs.View.{ids, threadAt, slotAt, noSlot}
-use Rattle.sound.specs.Tls.{heldIf, held}
+use Rattle.sound.specs.View.{ids, threadAt, slotAt, noSlot, slotAt-pos, slotAt-out}
+use Rattle.sound.specs.Tls.{held, held-length}
 use Rattle.sound.specs.Objects.{keptAt}
 use Rattle.object.specs.Store.{refcount}
-use Rattle.thread.specs.Threads.{freeFrom, unnamed, endedFrom}
+use Rattle.object.proofs.Laws.{kept-in}
+use Rattle.thread.specs.Threads.{least, freeFrom, unnamed, endedFrom}
+
+-- ---- the lesser of two numbers
+pub least-is : (a b : ℕ) → a ≤ b → least a b ≡ a
+least-is a b h = go (ltb a b) refl
+  where
+    go : (t : Bool) → ltb a b ≡ t → pick t a b ≡ a
+    go true e = refl
+    go false e = omega (arith, ltb-false a b e)
+
+pub least-le : (a b : ℕ) → least a b ≤ b
+least-le a b = go (ltb a b) refl
+  where
+    go : (t : Bool) → ltb a b ≡ t → pick t a b ≤ b
+    go true e = omega (arith, ltb-true a b e)
+    go false e = omega arith
 
 -- ---- TLS slots
 unfoldable pub freeMarked : List ℕ → ℕ → ℕ → ℕ
 freeMarked m zero s = s
 freeMarked m (suc n) s = pick (eqb (getD m s 0) 0) s (freeMarked m n (s + 1))
-
-if-length : (b : Bool) (s : ℕ) (l : List ℕ) → length (heldIf b s l) ≤ suc (length l)
-if-length true s l = omega arith
-if-length false s l = omega arith
-
-held-length : (ts : List Thread) → length (held ts) ≤ length ts
-unfolding held
-held-length [] = omega arith
-held-length (t ∷ ts) = omega (arith, if-length (isDead (t .status)) (t .tls) (held ts), held-length ts)
 
 pub free-is : (ts : List Thread) → length ts ≡ 32 → (n s : ℕ) → s + n ≤ 128 → freeMarked (tally 129 (replicate 129 0) (held ts)) n s ≡ freeFrom (held ts) n s
 unfolding freeMarked freeFrom
@@ -63,26 +70,13 @@ endedIn ts kept slots zero t = t
 endedIn ts kept slots (suc n) t =
     pick (ended? (threadAt ts t) (idAt kept t) (getD slots (slotIndex (idAt kept t)) noSlot)) t (endedIn ts kept slots n (t + 1))
 
-kept-at : (s : ObjectStore) (t : ℕ) → idAt (s .«thread_objects») t ≡ keptAt s t
-kept-at s t = sym (List·getD-map (λ (o : ObjectId). o .0) (s .«thread_objects») t (record { 0 = 0 }))
-
-slot-far : (l : List Slot) (x : ℕ) → length l ≡ 128 → 128 < x → slotAt l x ≡ noSlot
-unfolding slotAt
-slot-far l zero e h = refl
-slot-far l (suc i) e h = List·getD-eq-default l noSlot (omega arith)
-
-slot-near : (l : List Slot) (x : ℕ) → (x ≡ 0 → ⊥) → slotAt l x ≡ getD l (x - 1) noSlot
-unfolding slotAt
-slot-near l zero n = absurd (n refl)
-slot-near l (suc i) n = let e : suc i - 1 ≡ i = omega arith in rw e
-
 -- a number with a slot is looked at there; another one has no holder
 unnamed-as : (l : List Slot) (x : ℕ) → length l ≡ 128 → (a b : Bool) → eqb x 0 ≡ a → ltb 128 x ≡ b
     → a or (b or leb (getD l (pick a 0 (pick b 0 (x - 1))) noSlot .refcount) 1) ≡ a or leb (slotAt l x .refcount) 1
 unfolding _or_
 unnamed-as l x e true b p q = refl
-unnamed-as l x e false true p q = ap (λ (y : Slot). leb (y .refcount) 1) (sym (slot-far l x e (ltb-true 128 x q)))
-unnamed-as l x e false false p q = ap (λ (y : Slot). leb (y .refcount) 1) (sym (slot-near l x (eqb-false x 0 p)))
+unnamed-as l x e false true p q = ap (λ (y : Slot). leb (y .refcount) 1) (sym (slotAt-out l x (λ p. omega (arith, ltb-true 128 x q))))
+unnamed-as l x e false false p q = ap (λ (y : Slot). leb (y .refcount) 1) (sym (slotAt-pos l x (eqb-false x 0 p)))
 
 unnamed-is : (s : ObjectStore) (t : ℕ) → length (s .slots) ≡ 128
     → unnamed? (keptAt s t) (getD (s .slots) (slotIndex (keptAt s t)) noSlot) ≡ unnamed s t
@@ -93,4 +87,4 @@ pub ended-is : (k : Kernel) → length (k .objects .slots) ≡ 128 → (n t : �
     → endedIn (k .threads) (k .objects .«thread_objects») (k .objects .slots) n t ≡ endedFrom k n t
 unfolding endedIn endedFrom ended?
 ended-is k e zero t = refl
-ended-is k e (suc n) t = rw (kept-at (k .objects) t, unnamed-is (k .objects) t e, ended-is k e n (t + 1))
+ended-is k e (suc n) t = rw (kept-in (k .objects .«thread_objects») t, unnamed-is (k .objects) t e, ended-is k e n (t + 1))

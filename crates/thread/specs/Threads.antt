@@ -69,11 +69,11 @@ unfoldable pub endedThread : Kernel → ℕ
 endedThread k = endedFrom k (least (k .«thread_count») 32) 0
 
 -- ---- `forget_thread`: its kept object and its records go
-abbrev pub unkept : ObjectStore → ℕ → ObjectStore
-unkept s t = pick (eqb (keptAt s t) 0) s (release (withKept s (set (s .«thread_objects») t (record { 0 = 0 }))) (keptAt s t))
+abbrev pub letGo : ObjectStore → ℕ → ObjectStore
+letGo s t = pick (eqb (keptAt s t) 0) s (release (withKept s (set (s .«thread_objects») t (record { 0 = 0 }))) (keptAt s t))
 
 unfoldable pub forgetThread : ObjectStore → ℕ → ObjectStore
-forgetThread s t = dropThread 128 1 t (unkept s t)
+forgetThread s t = dropThread 128 1 t (letGo s t)
 
 -- ---- `create_thread`: in the place of an ended thread, or in a new one
 abbrev pub createAt : Bool → ℕ → ℕ → Kernel → ℕ → ℕ → ℕ → ℕ → Kernel

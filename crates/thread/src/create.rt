@@ -18,7 +18,7 @@ ghost use Rattle.thread.specs.Threads as def;
 
 // The kept object of a thread is let go.
 fn let_go(s: ObjectStore, t: u32) -> ObjectStore
-    ensures { λ r. ⌜ r ≡ def.unkept s t ⌝ }
+    ensures { λ r. ⌜ r ≡ def.letGo s t ⌝ }
 {
     let kept = s.thread_objects;
     let o = kept::kept_at(kept, t);
@@ -39,7 +39,7 @@ fn forget_thread(s: ObjectStore, t: u32) -> ObjectStore
     waiters::drop_thread(q, t)
 }
 
-pub fn put_thread(ts: [Thread; 32], t: u32, v: Thread) -> [Thread; 32]
+fn put_thread(ts: [Thread; 32], t: u32, v: Thread) -> [Thread; 32]
     ensures { λ r. ⌜ r ≡ set ts t v ⌝ }
 {
     if 32 <= t {

@@ -1,7 +1,8 @@
 use mathlib.Core.Path.{_≡_, sym, _∙_}
 use lib.ListN.{length, length-map}
 use native.Mathlib.Omega.{arith}
-use Rattle.object.proofs.Laws.{slotAt-none, slotAt-pos, slotAt-far}
+use Rattle.sound.specs.View.{slotAt-pos, slotAt-out}
+use Rattle.object.proofs.Laws.{slotAt-none}
 use borrow.Author.Needs.{needs}
 use Rattle.object.proofs.slots.slot_at.Statement.{statement}
 use Rattle.object.proofs.slots.slot_at.Tie as tie
@@ -19,7 +20,7 @@ returns-2 : tie.Need-returns-2
 returns-2 c =
     let s = c .before .before .before in
     let n : length (s .args .t1 .slots) ≡ 128 = sym (length-map (s .args .t1 .slots) _) ∙ s .good .0 .1 .1 .0 .1 .0 .1 in
-    c .no-slot2 .ensures ∙ sym (slotAt-far (s .args .t1 .slots) (s .args .o .0) (omega arith))
+    c .no-slot2 .ensures ∙ sym (slotAt-out (s .args .t1 .slots) (s .args .o .0) (λ p. omega arith))
 
 sub-i : tie.Need-sub-i
 sub-i c = search needs

@@ -1,8 +1,9 @@
 use mathlib.Core.Path.{_∙_}
 use mathlib.Core.Logic.{⊎-elim}
 use native.Mathlib.Omega.{arith}
+use Rattle.laws.specs.Walk.{walk-nil, walk-out}
 use Rattle.sound.specs.Records.{has?}
-use Rattle.object.proofs.Laws.{walk-nil, walk-out, has-here, has-thread, has-address}
+use Rattle.object.proofs.Laws.{has-here, has-thread, has-address}
 use borrow.Author.Needs.{needs}
 use Prim.Native.Nat.{ℕ, _<_}
 use borrow.Fn.Kinds.{In}

@@ -1,7 +1,8 @@
 use mathlib.Core.Path.{_∙_}
 use native.Mathlib.Omega.{arith}
+use Rattle.laws.specs.Walk.{walk-nil, walk-out}
 use Rattle.object.specs.Waiters.{lastOf}
-use Rattle.object.proofs.Laws.{walk-nil, walk-out, last-go}
+use Rattle.object.proofs.Laws.{last-go}
 use borrow.Author.Needs.{needs}
 use Prim.Native.Nat.{ℕ, _<_}
 use borrow.Fn.Kinds.{In}

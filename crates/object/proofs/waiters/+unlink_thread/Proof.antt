@@ -2,8 +2,9 @@ use mathlib.Core.Path.{_∙_}
 use mathlib.Core.Bool.{not}
 use lib.Dec.{eqb}
 use native.Mathlib.Omega.{arith}
+use Rattle.laws.specs.Walk.{walk-nil, walk-out}
 use Rattle.object.specs.Waiters as def
-use Rattle.object.proofs.Laws.{walk-nil, walk-out, unlink-go}
+use Rattle.object.proofs.Laws.{unlink-go}
 use borrow.Author.Needs.{needs}
 use Prim.Native.Nat.{ℕ, _<_}
 use borrow.Fn.Kinds.{In}

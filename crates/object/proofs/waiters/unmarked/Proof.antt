@@ -1,5 +1,5 @@
 use lib.ListN.{List·getD-eq-default}
-use Rattle.object.proofs.Laws.{get-any}
+use Rattle.laws.specs.Count.{get-any}
 use borrow.Author.Needs.{needs}
 use Rattle.object.proofs.waiters.unmarked.Statement.{statement}
 use Rattle.object.proofs.waiters.unmarked.Tie as tie

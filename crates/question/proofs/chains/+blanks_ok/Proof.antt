@@ -1,7 +1,8 @@
 use mathlib.Core.Path.{_∙_}
 use native.Mathlib.Omega.{arith}
+use Rattle.laws.specs.Walk.{walk-nil, walk-out}
 use Rattle.sound.specs.Records.{blanks?}
-use Rattle.question.specs.ObjectSteps.{walk-nil, walk-out, blank-thread, blank-address, blank-go}
+use Rattle.question.specs.ObjectSteps.{blank-thread, blank-address, blank-go}
 use borrow.Author.Needs.{needs}
 use Prim.Native.Nat.{ℕ, _<_}
 use borrow.Fn.Kinds.{In}

@@ -1,7 +1,8 @@
 use mathlib.Core.Path.{sym, _∙_}
 use native.Mathlib.Omega.{arith}
+use Rattle.laws.specs.Walk.{walk-nil, walk-out}
 use Rattle.sound.specs.Records.{chain?}
-use Rattle.question.specs.ObjectSteps.{walk-nil, walk-out, chain-thread, chain-twice, chain-go}
+use Rattle.question.specs.ObjectSteps.{chain-thread, chain-twice, chain-go}
 use borrow.Author.Needs.{needs}
 use Prim.Native.Nat.{ℕ, _<_}
 use borrow.Fn.Kinds.{In}

@@ -1,8 +1,9 @@
 use mathlib.Core.Path.{_∙_}
 use native.Mathlib.Omega.{arith}
 use mathlib.Core.Logic.{⊎-elim}
+use Rattle.laws.specs.Walk.{walk-nil, walk-out}
 use Rattle.sound.specs.Records.{has?}
-use Rattle.question.specs.ObjectSteps.{walk-nil, walk-out, has-thread, has-here, has-address}
+use Rattle.question.specs.ObjectSteps.{has-thread, has-here, has-address}
 use borrow.Author.Needs.{needs}
 use Prim.Native.Nat.{ℕ, _<_}
 use borrow.Fn.Kinds.{In}

@@ -2,8 +2,8 @@ use mathlib.Core.Path.{ap}
 use Prim.Native.Nat.{ℕ}
 use lib.Dec.{eqb}
 use lib.ListN.{List·getD-eq-default}
+use Rattle.laws.specs.Count.{get-any}
 use Rattle.question.specs.LinearObjects.{live?}
-use Rattle.question.specs.ObjectSteps.{get-any}
 use borrow.Author.Needs.{needs}
 use Rattle.question.proofs.objects.live.Statement.{statement}
 use Rattle.question.proofs.objects.live.Tie as tie

@@ -1,8 +1,7 @@
 use mathlib.Core.Path.{_≡_, refl, ap, sym, _∙_}
 use native.Mathlib.Omega.{arith}
 use Rattle.thread.specs.Threads.{least, endedThread}
-use Rattle.thread.specs.Marks.{ended-is}
-use Rattle.thread.proofs.Steps.{least-le}
+use Rattle.thread.specs.Marks.{least-le, ended-is}
 use borrow.Author.Needs.{needs}
 use Rattle.thread.proofs.places.ended_thread.Statement.{statement}
 use Rattle.thread.proofs.places.ended_thread.Tie as tie

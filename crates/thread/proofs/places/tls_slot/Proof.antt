@@ -5,8 +5,7 @@ use lib.ListN.{replicate}
 use Rattle.sound.specs.Tls.{held}
 use Rattle.laws.specs.Tally.{tally}
 use Rattle.thread.specs.Threads.{least, freeFrom, tlsSlot}
-use Rattle.thread.specs.Marks.{freeMarked, free-is}
-use Rattle.thread.proofs.Steps.{least-le}
+use Rattle.thread.specs.Marks.{least-le, freeMarked, free-is}
 use borrow.Author.Needs.{needs}
 use Rattle.thread.proofs.places.tls_slot.Statement.{statement}
 use Rattle.thread.proofs.places.tls_slot.Tie as tie
