@@ -112,7 +112,7 @@ fn mark_lists(m: &mut [u32; 129], ts: [Thread; 32])
     }
 }
 
-fn due_of(o: KObject) -> TickOption
+pub fn due_of(o: KObject) -> TickOption
     ensures { λ r. ⌜ r ≡ dueOf o ⌝ }
 {
     match o {

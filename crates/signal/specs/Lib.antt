@@ -1,0 +1,2 @@
+-- `is_signaled` as it is computed.
+pub mod Looks

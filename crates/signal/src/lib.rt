@@ -1,0 +1,5 @@
+// Signals, pulses and timers (the part of mod.rs that changes what an object says).
+pub mod acquire;
+pub mod event;
+pub mod pulse;
+pub mod timer;
