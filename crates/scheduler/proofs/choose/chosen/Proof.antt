@@ -1,0 +1,31 @@
+use mathlib.Core.Path.{_≡_, refl, ap, sym, _∙_}
+use Prim.Native.Nat.{_+_, _-_, _≤_, _<_}
+use native.Mathlib.Omega.{arith}
+use lib.ListN.{length, drop}
+use Rattle.laws.specs.Logic.{pick, pick-yes, pick-no, or-yes, or-no}
+use borrow.Author.Tests.{lt-ltb, le-ltb, lt-leb, le-leb, eq-eqb, ne-eqb, not-true, not-false}
+use Rattle.laws.specs.Logic.{_and_}
+use borrow.Author.Needs.{needs}
+use Rattle.scheduler.proofs.choose.chosen.Statement.{statement}
+use Rattle.scheduler.proofs.choose.chosen.Tie as tie
+use Rattle.scheduler.proofs.choose.chosen.Reads as reads
+use Rattle.scheduler.proofs.choose.chosen.Lts as lts
+use Rattle.scheduler.proofs.choose.stand_in.Reads as stand-in-reads
+
+returns : tie.Need-returns
+unfolding _and_
+returns c = rw (not-true (c .before .args .starve) (c .if1 .taken))
+
+returns-2 : tie.Need-returns-2
+unfolding _and_
+returns-2 c = rw (not-false (c .before .before .args .starve) (c .before .if1 .left), c .if2 .taken)
+
+stand-in-requires : tie.Need-stand-in-requires
+stand-in-requires c κs = search needs
+
+returns-3 : tie.Need-returns-3
+unfolding _and_
+returns-3 c = rw (not-false (c .before .before .before .args .starve) (c .before .before .if1 .left), c .before .if2 .left) (c .stand-in .ensures)
+
+pub chosen-spec : {M : Type 1} → statement M
+chosen-spec = tie.close (tie.spec returns returns-2 stand-in-requires returns-3)

@@ -1,0 +1,23 @@
+use mathlib.Core.Path.{_≡_, refl, ap, sym, _∙_}
+use Rattle.scheduler.proofs.Steps.{far}
+use native.Mathlib.Omega.{arith}
+use borrow.Author.Needs.{needs}
+use Rattle.scheduler.proofs.choose.priority_at.Statement.{statement}
+use Rattle.scheduler.proofs.choose.priority_at.Tie as tie
+use Rattle.scheduler.proofs.choose.priority_at.Reads as reads
+use Rattle.scheduler.proofs.choose.priority_at.Lts as lts
+
+returns : tie.Need-returns
+returns c = rw (far (c .before .args .t1) (c .before .args .t) (omega (arith, c .before .good)))
+
+mul-v : tie.Need-mul-v
+mul-v c = search needs
+
+array-copy-out-v : tie.Need-array-copy-out-v
+array-copy-out-v c = search needs
+
+returns-2 : tie.Need-returns-2
+returns-2 c = search needs
+
+pub priority-at-spec : {M : Type 1} → statement M
+priority-at-spec = tie.close (tie.spec returns mul-v array-copy-out-v returns-2)

@@ -1,0 +1,31 @@
+use mathlib.Core.Path.{_≡_, refl, ap, sym, _∙_}
+use Prim.Native.Nat.{_+_, _-_, _≤_, _<_}
+use native.Mathlib.Omega.{arith}
+use lib.ListN.{length, drop}
+use Rattle.laws.specs.Logic.{pick, pick-yes, pick-no, or-yes, or-no}
+use borrow.Author.Tests.{lt-ltb, le-ltb, lt-leb, le-leb, eq-eqb, ne-eqb, not-true, not-false}
+use borrow.Author.Needs.{needs}
+use Rattle.scheduler.proofs.choose.stand_in.Statement.{statement}
+use Rattle.scheduler.proofs.choose.stand_in.Tie as tie
+use Rattle.scheduler.proofs.choose.stand_in.Reads as reads
+use Rattle.scheduler.proofs.choose.stand_in.Lts as lts
+use Rattle.scheduler.proofs.choose.stand_in_at.Reads as stand-in-at-reads
+
+enum-told : tie.Need-enum-told
+enum-told c = search needs
+
+enum-known-first : tie.Need-enum-known-first
+enum-known-first c = search needs
+
+stand-in-at-requires : tie.Need-stand-in-at-requires
+stand-in-at-requires c κs = search needs
+
+returns : tie.Need-returns
+returns c = search needs
+
+returns-2 : tie.Need-returns-2
+returns-2 c = rw (c .before .before .first .given .1) (c .stand-in-at .ensures)
+
+pub stand-in-spec : {M : Type 1} → statement M
+stand-in-spec =
+    tie.close (tie.spec enum-told enum-known-first stand-in-at-requires returns returns-2)

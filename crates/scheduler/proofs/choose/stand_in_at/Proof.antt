@@ -1,0 +1,30 @@
+use mathlib.Core.Path.{_≡_, refl, ap, sym, _∙_}
+use Prim.Native.Nat.{_+_, _-_, _≤_, _<_}
+use native.Mathlib.Omega.{arith}
+use lib.ListN.{length, drop}
+use Rattle.laws.specs.Logic.{pick, pick-yes, pick-no, or-yes, or-no}
+use borrow.Author.Tests.{lt-ltb, le-ltb, lt-leb, le-leb, eq-eqb, ne-eqb, not-true, not-false}
+use borrow.Author.Needs.{needs}
+use Rattle.scheduler.proofs.choose.stand_in_at.Statement.{statement}
+use Rattle.scheduler.proofs.choose.stand_in_at.Tie as tie
+use Rattle.scheduler.proofs.choose.stand_in_at.Reads as reads
+use Rattle.scheduler.proofs.choose.stand_in_at.Lts as lts
+use Rattle.scheduler.proofs.choose.priority_at.Reads as priority-at-reads
+use Rattle.scheduler.proofs.pick.or_else.Reads as or-else-reads
+use Rattle.scheduler.proofs.pick.pick_other.Reads as pick-other-reads
+
+priority-at-requires : tie.Need-priority-at-requires
+priority-at-requires c κs = search needs
+
+pick-other-requires : tie.Need-pick-other-requires
+pick-other-requires c κs = search needs
+
+or-else-requires : tie.Need-or-else-requires
+or-else-requires c κs = search needs
+
+returns : tie.Need-returns
+returns c = rw (← c .before .before .priority-at .ensures, ← c .before .pick-other .ensures) (c .or-else .ensures)
+
+pub stand-in-at-spec : {M : Type 1} → statement M
+stand-in-at-spec =
+    tie.close (tie.spec priority-at-requires pick-other-requires or-else-requires returns)

@@ -1,0 +1,23 @@
+use mathlib.Core.Path.{_≡_, refl, ap, sym, _∙_}
+use borrow.Author.Needs.{needs}
+use Rattle.scheduler.proofs.run.leaves.Statement.{statement}
+use Rattle.scheduler.proofs.run.leaves.Tie as tie
+use Rattle.scheduler.proofs.run.leaves.Reads as reads
+use Rattle.scheduler.proofs.run.leaves.Lts as lts
+use Rattle.scheduler.proofs.pick.is_running.Reads as is-running-reads
+use Rattle.thread.proofs.thread.with_status.Reads as with-status-reads
+
+is-running-requires : tie.Need-is-running-requires
+is-running-requires c κs = search needs
+
+with-status-requires : tie.Need-with-status-requires
+with-status-requires c κs = search needs
+
+returns : tie.Need-returns
+returns c = rw (sym (c .before .before .is-running .ensures) ∙ c .before .if1 .taken) (c .with-status .ensures)
+
+returns-2 : tie.Need-returns-2
+returns-2 c = rw (sym (c .before .is-running .ensures) ∙ c .if1 .left)
+
+pub leaves-spec : {M : Type 1} → statement M
+leaves-spec = tie.close (tie.spec is-running-requires with-status-requires returns returns-2)

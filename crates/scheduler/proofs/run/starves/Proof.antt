@@ -1,0 +1,17 @@
+use mathlib.Core.Path.{_≡_, refl, ap, sym, _∙_}
+use native.Mathlib.Omega.{arith}
+use Prim.Native.Nat.{_-_}
+use borrow.Author.Needs.{needs}
+use Rattle.scheduler.proofs.run.starves.Statement.{statement}
+use Rattle.scheduler.proofs.run.starves.Tie as tie
+use Rattle.scheduler.proofs.run.starves.Reads as reads
+use Rattle.scheduler.proofs.run.starves.Lts as lts
+
+returns : tie.Need-returns
+returns c = let e : c .before .before .args .tick - c .before .before .args .since .0 ≡ 0 = omega arith in rw e
+
+returns-2 : tie.Need-returns-2
+returns-2 c = search needs
+
+pub starves-spec : {M : Type 1} → statement M
+starves-spec = tie.close (tie.spec returns returns-2)

@@ -1,0 +1,25 @@
+use mathlib.Core.Path.{_≡_, refl, ap, sym, _∙_}
+use borrow.Author.Needs.{needs}
+use Rattle.scheduler.proofs.run.starving.Statement.{statement}
+use Rattle.scheduler.proofs.run.starving.Tie as tie
+use Rattle.scheduler.proofs.run.starving.Reads as reads
+use Rattle.scheduler.proofs.run.starving.Lts as lts
+use Rattle.scheduler.proofs.run.starving_at.Reads as starving-at-reads
+
+enum-told : tie.Need-enum-told
+enum-told c = search needs
+
+enum-known-c : tie.Need-enum-known-c
+enum-known-c c = search needs
+
+starving-at-requires : tie.Need-starving-at-requires
+starving-at-requires c κs = search needs
+
+returns : tie.Need-returns
+returns c = search needs
+
+returns-2 : tie.Need-returns-2
+returns-2 c = rw (c .before .before .c .given .1) (c .starving-at .ensures)
+
+pub starving-spec : {M : Type 1} → statement M
+starving-spec = tie.close (tie.spec enum-told enum-known-c starving-at-requires returns returns-2)

@@ -1,0 +1,173 @@
+// The choice after the tries: first pick, starving, relief, stand-in, switch.
+use crate::pick;
+use crate::run;
+use pass::Passed;
+use types::kernel::Kernel;
+use types::object::ObjectStore;
+use types::thread::Thread;
+use types::thread::ThreadOption;
+ghost use mathlib.Core.Path.{_≡_};
+ghost use mathlib.Core.Bool.{not};
+ghost use Rattle.laws.specs.Logic.{pick, _and_};
+ghost use Rattle.sound.specs.View.{threadAt};
+ghost use Rattle.pass.specs.Pick.{pickNext};
+ghost use Rattle.pass.specs.Schedule as def;
+ghost use Rattle.scheduler.specs.Switch as computed;
+
+fn priority_at(ts: [Thread; 32], t: u32) -> u32
+    ensures { λ r. ⌜ r ≡ threadAt ts t .priority ⌝ }
+{
+    if 32 <= t {
+        return 0;
+    }
+    let v = ts[t as usize];
+    v.priority
+}
+
+fn stand_in_at(ts: [Thread; 32], t: u32) -> ThreadOption
+    ensures { λ r. ⌜ r ≡ def.standIn ts (ThreadOption.SomeThread t) ⌝ }
+{
+    let p = priority_at(ts, t);
+    let other = pick::pick_other(ts, t, p);
+    pick::or_else(other, ThreadOption::SomeThread(t))
+}
+
+fn stand_in(ts: [Thread; 32], first: ThreadOption) -> ThreadOption
+    ensures { λ r. ⌜ r ≡ def.standIn ts first ⌝ }
+{
+    match first {
+        ThreadOption::NoThread => ThreadOption::NoThread,
+        ThreadOption::SomeThread(t) => stand_in_at(ts, t),
+    }
+}
+
+// When relief turns on, another thread runs instead, if there is one.
+fn chosen(ts: [Thread; 32], first: ThreadOption, starve: bool, relief: bool) -> ThreadOption
+    ensures { λ r. ⌜ r ≡ def.chosen ts first starve relief ⌝ }
+{
+    if !starve {
+        return first;
+    }
+    if relief {
+        return first;
+    }
+    stand_in(ts, first)
+}
+
+fn flipped(starve: bool, relief: bool) -> bool
+    ensures { λ r. ⌜ r ≡ def.flipped starve relief ⌝ }
+{
+    if starve {
+        return !relief;
+    }
+    relief
+}
+
+fn is_none(t: ThreadOption) -> bool
+    ensures { λ r. ⌜ r ≡ def.isNone t ⌝ }
+{
+    match t {
+        ThreadOption::NoThread => true,
+        ThreadOption::SomeThread(_t) => false,
+    }
+}
+
+fn stays_at(t: u32, n: ThreadOption) -> bool
+    ensures { λ r. ⌜ r ≡ computed.stays (ThreadOption.SomeThread t) n ⌝ }
+{
+    match n {
+        ThreadOption::NoThread => false,
+        ThreadOption::SomeThread(u) => t == u,
+    }
+}
+
+fn stays(c: ThreadOption, n: ThreadOption) -> bool
+    ensures { λ r. ⌜ r ≡ computed.stays c n ⌝ }
+{
+    match c {
+        ThreadOption::NoThread => false,
+        ThreadOption::SomeThread(t) => stays_at(t, n),
+    }
+}
+
+fn left_threads(same: bool, ts: [Thread; 32], c: ThreadOption) -> [Thread; 32]
+    ensures { λ r. ⌜ r ≡ pick same ts (def.leaveCore ts c) ⌝ }
+{
+    if same {
+        return ts;
+    }
+    run::leave_core(ts, c)
+}
+
+fn unless(same: bool, t: ThreadOption) -> ThreadOption
+    ensures { λ r. ⌜ r ≡ computed.unless same t ⌝ }
+{
+    if same {
+        return ThreadOption::NoThread;
+    }
+    t
+}
+
+fn switches(same: bool, c: ThreadOption, n: ThreadOption) -> bool
+    ensures { λ r. ⌜ r ≡ (not same and not (def.isNone c and def.isNone n)) ⌝ }
+{
+    if same {
+        return false;
+    }
+    if !is_none(c) {
+        return true;
+    }
+    !is_none(n)
+}
+
+fn switch(
+    k: Kernel,
+    s: ObjectStore,
+    ts: [Thread; 32],
+    relief: bool,
+    c: ThreadOption,
+    n: ThreadOption,
+) -> Passed
+    ensures { λ r. ⌜ r ≡ def.switchAs k s ts relief c n ⌝ }
+{
+    let same = stays(c, n);
+    let threads = run::take_core(left_threads(same, ts, c), n);
+    let saved = unless(same, c);
+    let restored = unless(same, n);
+    let handles = k.handles;
+    let blocked = is_none(n);
+    let turned = switches(same, c, n);
+    Passed {
+        kernel: Kernel {
+            status_word: k.status_word,
+            objects: s,
+            handles: handles,
+            threads: threads,
+            thread_count: k.thread_count,
+            current_thread: n,
+            next_tls_slot: k.next_tls_slot,
+            next_guest_id: k.next_guest_id,
+            all_blocked: blocked,
+            relief: relief,
+            full: k.full,
+            overflow: k.overflow,
+        },
+        saved: saved,
+        restored: restored,
+        switched: turned,
+    }
+}
+
+// The state k with the objects s and the threads ts after the tries.
+pub fn choose(k: Kernel, s: ObjectStore, ts: [Thread; 32], tick: u64) -> Passed
+    ensures { λ r. ⌜ r ≡ def.choose k (record { objects = s; threads = ts }) tick ⌝ }
+{
+    let current = k.current_thread;
+    let waited = run::mark_waited(ts, current);
+    let first = pick::pick_next(waited, current);
+    let begun = run::begin_run(waited, first, tick);
+    let starve = run::starving(begun, first, tick);
+    let next = chosen(begun, first, starve, k.relief);
+    let threads = run::begin_run(begun, next, tick);
+    switch(k, s, threads, flipped(starve, k.relief), current, next)
+}
