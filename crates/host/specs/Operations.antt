@@ -3,9 +3,11 @@ use mathlib.Core.Bool.{Bool, true, false}
 use mathlib.Core.List.{List, _++_}
 use Prim.Native.Nat.{ℕ, _*_}
 use lib.Dec.{eqb, ltb}
-use lib.ListN.{length, replicate}
+use lib.ListN.{length, replicate, take, drop}
 use Rattle.laws.specs.Logic.{pick, _and_, _or_}
 use Rattle.codec.specs.Bytes.{bytes, over}
+use Rattle.types.specs.declared.thread.ThreadOption.{ThreadOption}
+use Rattle.types.specs.declared.thread.ThreadOption.the-variants.{NoThread, SomeThread}
 use Rattle.types.specs.declared.thread.TickOption.{TickOption}
 use Rattle.types.specs.declared.kernel.Kernel.{Kernel}
 use Rattle.types.specs.Thread.{isDead, tickFlag, tickValue}
@@ -17,6 +19,8 @@ use Rattle.kernel.specs.Fresh.{fresh}
 use Rattle.kernel.specs.NextEvent as kernel
 use Rattle.thread.specs.Thread.{newContext}
 use Rattle.thread.specs.Threads as thread
+use Rattle.pass.specs.declared.Passed.{Passed}
+use Rattle.pass.specs.Schedule as pass
 use Rattle.host.specs.Lent.{Lent, lent, withAnswer, withBlock, Back, back}
 
 -- question 8 of an operation that changes nothing: the next handle is at most 0xFFFF8000
@@ -82,3 +86,26 @@ createThread entry stack arg priority processor l =
     change (eqb (length (l .block)) 16384 and (eqb (length (l .bank)) 6656 and eqb (length (l .answer)) 4)) (λ k. 0)
     (λ k. thread.createThread k entry stack priority processor)
     (λ k. lent (encBlock (thread.createThread k entry stack priority processor)) (rowMade (l .bank) k entry stack arg) (l .processor) (l .window) (bytes 4 (thread.endedThread k))) l
+
+-- ---- a pass
+-- a context into a thread's row of the bank; a number past the rows has none
+abbrev pub saveRow : List ℕ → ThreadOption → List ℕ → List ℕ
+saveRow bank NoThread context = bank
+saveRow bank (SomeThread t) context = pick (ltb t 32) (over bank (t * 208) context) bank
+
+-- the context in a thread's row, or what is there if there is none
+abbrev pub restoreRow : List ℕ → ThreadOption → List ℕ → List ℕ
+restoreRow context NoThread bank = context
+restoreRow context (SomeThread t) bank = pick (ltb t 32) (take 208 (drop (t * 208) bank)) context
+
+-- the processor goes to the row of the thread that leaves the core, and comes from that of the one that gets it
+abbrev pub passWritten : Lent → Passed → Lent
+passWritten l p =
+    let bank : List ℕ = saveRow (l .bank) (p .saved) (l .processor) in
+    lent (encBlock (p .kernel)) bank (restoreRow (l .processor) (p .restored) bank) (l .window) (bytes 4 (pick (p .switched) 1 0))
+
+-- the answer is whether the pass switched
+unfoldable pub schedule : ℕ → Lent → Back
+schedule tick l =
+    change (eqb (length (l .block)) 16384 and (eqb (length (l .bank)) 6656 and (eqb (length (l .processor)) 208 and eqb (length (l .answer)) 4))) (λ k. 0)
+    (λ k. pass.schedule k tick .kernel) (λ k. passWritten l (pass.schedule k tick)) l

@@ -4,3 +4,4 @@ pub mod end_thread;
 pub mod fresh_start;
 pub mod next_event;
 pub mod questions;
+pub mod schedule;

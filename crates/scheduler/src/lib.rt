@@ -1,4 +1,5 @@
-// Which thread runs (the choosing part of `schedule`).
+// The pass (`schedule`).
 pub mod choose;
 pub mod pick;
 pub mod run;
+pub mod schedule;

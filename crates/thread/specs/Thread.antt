@@ -110,3 +110,23 @@ withResult t r c = record {
   «wait_syscall» = c;
   «guest_id» = t .«guest_id»;
 }
+
+abbrev pub withPriority : Thread → ℕ → Thread
+withPriority t p = record {
+  status = t .status;
+  priority = p;
+  entry = t .entry;
+  «stack_top» = t .«stack_top»;
+  tls = t .tls;
+  «processor_id» = t .«processor_id»;
+  «wait_objects» = t .«wait_objects»;
+  «wait_count» = t .«wait_count»;
+  «wait_all» = t .«wait_all»;
+  «wakeup_at» = t .«wakeup_at»;
+  «running_since» = t .«running_since»;
+  waited = t .waited;
+  «wait_address» = t .«wait_address»;
+  «wait_result» = t .«wait_result»;
+  «wait_syscall» = t .«wait_syscall»;
+  «guest_id» = t .«guest_id»;
+}

@@ -26,7 +26,7 @@ use Rattle.sound.specs.Objects.{keptAt}
 use Rattle.object.specs.Slots.{withKept, withSlots, withObject}
 use Rattle.object.specs.Store.{release, releases, refcount}
 use Rattle.object.specs.Waiters.{dropThread}
-use Rattle.thread.specs.Thread.{newThread, clearWait, withStatus, withResult}
+use Rattle.thread.specs.Thread.{newThread, clearWait, withStatus, withResult, withPriority}
 
 -- ---- parts of the kernel anew
 abbrev pub withThreads : Kernel → List th.Thread → ObjectStore → Kernel
@@ -95,6 +95,10 @@ createAt reused id tls k entry stack priority processor = record {
 -- the thread's number is `endedThread k`
 unfoldable pub createThread : Kernel → ℕ → ℕ → ℕ → ℕ → Kernel
 createThread k entry stack priority processor = createAt (ltb (endedThread k) (k .«thread_count»)) (endedThread k) (tlsSlot k) k entry stack priority processor
+
+-- ---- the priority of a thread, which `set_thread_priority` of svc.rs cuts to the lowest
+unfoldable pub setPriority : Kernel → ℕ → ℕ → Kernel
+setPriority k t p = withThreads k (set (k .threads) t (withPriority (threadAt (k .threads) t) (least p 63))) (k .objects)
 
 -- ---- `end_wait`: the objects of its list are let go, in list order
 abbrev pub releaseWaits : ObjectStore → List th.Thread → ℕ → ObjectStore

@@ -45,7 +45,7 @@ pub fn tls_slot(k: Kernel) -> u32
 }
 
 // An index to look at for the object x: its slot, or the first one if it has none.
-fn slot_index(x: u32) -> usize
+pub fn slot_index(x: u32) -> usize
     ensures { λ r. ⌜ r ≡ slotIndex x ⌝ }
     ensures { λ r. ⌜ r < 128 ⌝ }
 {

@@ -1,0 +1,2 @@
+-- Waits as they are looked at.
+pub mod Looks

@@ -1,0 +1,74 @@
+-- A list of objects as it is looked over: the first that is signalled, or the first that is not.
+use mathlib.Core.Path.{_≡_, refl, ap, sym}
+use mathlib.Core.Bool.{Bool, true, false, not}
+use mathlib.Core.List.{List, [], _∷_}
+use mathlib.Core.Logic.{_≢_}
+use Prim.Native.Nat.{ℕ, zero, suc, _+_, _-_, _≤_, _<_}
+use native.Mathlib.Omega.{arith}
+use lib.Dec.{eqb, ltb}
+use lib.ListN.{length, getD, drop, List·getD-eq-default}
+use borrow.Author.Tests.{eqb-true, eqb-false, ltb-true, ltb-false}
+use Rattle.laws.specs.Logic.{pick, _and_, _or_}
+use Rattle.types.specs.declared.thread.Thread as th
+use Rattle.types.specs.declared.object.KObject.{KObject}
+use Rattle.types.specs.declared.object.KObject.the-variants.{Free}
+use Rattle.types.specs.declared.object.Slot.{Slot}
+use Rattle.types.specs.declared.object.ObjectStore.{ObjectStore}
+use Rattle.types.specs.Thread.{isDead}
+use Rattle.sound.specs.View.{objectAt, slotAt, noSlot, slotAt-pos, slotAt-out, threadAt, noThread}
+use Rattle.thread.specs.Marks.{slotIndex}
+use Rattle.pass.specs.declared.IndexOption.{IndexOption}
+use Rattle.pass.specs.declared.IndexOption.the-variants.{NoIndex, SomeIndex}
+use Rattle.pass.specs.Signal.{isSignaled}
+use Rattle.pass.specs.Waits.{allSignaled, firstSignaled}
+
+-- the object o, whose slot is x; a number that no slot has names a dead slot
+abbrev pub objectIn : ℕ → Slot → KObject
+objectIn o x = pick (eqb o 0 or ltb 128 o) (Free 0) (x .object)
+
+object-as : (l : List Slot) (o : ℕ) → length l ≡ 128 → (a b : Bool) → eqb o 0 ≡ a → ltb 128 o ≡ b
+    → pick (a or b) (Free 0) (getD l (pick a 0 (pick b 0 (o - 1))) noSlot .object) ≡ slotAt l o .object
+unfolding _or_
+object-as l o n true b e f = ap (λ (x : Slot). x .object) (sym (slotAt-out l o (λ h. absurd (omega (arith, eqb-true o 0 e)))))
+object-as l o n false true e f = ap (λ (x : Slot). x .object) (sym (slotAt-out l o (λ h. omega (arith, ltb-true 128 o f))))
+object-as l o n false false e f = ap (λ (x : Slot). x .object) (sym (slotAt-pos l o (eqb-false o 0 e)))
+
+pub object-is : (l : List Slot) (o : ℕ) → length l ≡ 128 → objectIn o (getD l (slotIndex o) noSlot) ≡ slotAt l o .object
+unfolding slotIndex
+object-is l o n = object-as l o n (eqb o 0) (ltb 128 o) refl refl
+
+-- whether the thread u is Dead, looked up at a place that is there
+gone-as : (ts : List th.Thread) (u : ℕ) → length ts ≡ 32 → (b : Bool) → ltb u 32 ≡ b → pick b (isDead (getD ts (pick b u 0) noThread .status)) true ≡ isDead (threadAt ts u .status)
+gone-as ts u n true e = refl
+gone-as ts u n false e = ap (λ (x : th.Thread). isDead (x .status)) (sym (List·getD-eq-default ts noThread (omega (arith, ltb-false u 32 e))))
+
+pub gone-is : (ts : List th.Thread) (u : ℕ) → length ts ≡ 32 → pick (ltb u 32) (isDead (getD ts (pick (ltb u 32) u 0) noThread .status)) true ≡ isDead (threadAt ts u .status)
+gone-is ts u n = gone-as ts u n (ltb u 32) refl
+
+-- the place of the first whose signal is as wanted
+abbrev pub as : Bool → Bool → Bool
+as true b = b
+as false b = not b
+
+unfoldable pub firstWhere : List th.Thread → List Slot → ℕ → Bool → ℕ → List ℕ → IndexOption
+firstWhere ts l w want i [] = NoIndex
+firstWhere ts l w want i (o ∷ os) = pick (as want (isSignaled ts (slotAt l o .object) w)) (SomeIndex i) (firstWhere ts l w want (i + 1) os)
+
+abbrev pub none : IndexOption → Bool
+none NoIndex = true
+none (SomeIndex i) = false
+
+pub first-is : (ts : List th.Thread) (s : ObjectStore) (w i : ℕ) (os : List ℕ) → firstWhere ts (s .slots) w true i os ≡ firstSignaled ts s w i os
+unfolding firstWhere firstSignaled
+first-is ts s w i [] = refl
+first-is ts s w i (o ∷ os) = rw (first-is ts s w (i + 1) os)
+
+pub all-is : (ts : List th.Thread) (s : ObjectStore) (w i : ℕ) (os : List ℕ) → none (firstWhere ts (s .slots) w false i os) ≡ allSignaled ts s w os
+unfolding firstWhere allSignaled _and_
+all-is ts s w i [] = refl
+all-is ts s w i (o ∷ os) = go (isSignaled ts (objectAt s o) w) (all-is ts s w (i + 1) os)
+  where
+    go : (b : Bool) → none (firstWhere ts (s .slots) w false (i + 1) os) ≡ allSignaled ts s w os
+        → none (pick (not b) (SomeIndex i) (firstWhere ts (s .slots) w false (i + 1) os)) ≡ b and allSignaled ts s w os
+    go true e = e
+    go false e = refl
