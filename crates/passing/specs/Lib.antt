@@ -1,0 +1,2 @@
+-- Each change of a pass keeps a state sound.
+pub mod Alike
