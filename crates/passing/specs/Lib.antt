@@ -1,2 +1,5 @@
 -- Each change of a pass keeps a state sound.
 pub mod Alike
+pub mod Objects
+pub mod Timers
+pub mod Signal
