@@ -3,3 +3,5 @@ pub mod Alike
 pub mod Objects
 pub mod Timers
 pub mod Signal
+pub mod Widths
+pub mod Threads

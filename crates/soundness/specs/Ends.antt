@@ -49,7 +49,7 @@ use Rattle.soundness.specs.Whole.{Parts, sound-parts, parts-sound}
 
 -- ---- a thread after its wait
 -- a list of none suits every status
-only-none : (s : ThreadStatus) → Only s 0
+pub only-none : (s : ThreadStatus) → Only s 0
 only-none Dead = refl
 only-none Running = refl
 only-none Ready = refl
@@ -81,7 +81,7 @@ places-words zero l p = tt
 places-words (suc n) [] p = absurd p
 places-words (suc n) (x ∷ xs) p = (omega (arith, p .1 .0), places-words n xs (p .1 .1))
 
-live-same : (ts : List th.Thread) (i : ℕ) (v : th.Thread) → i < length ts → isDead (v .status) ≡ isDead (threadAt ts i .status) → (t : ℕ) → Live ts t → Live (set ts i v) t
+pub live-same : (ts : List th.Thread) (i : ℕ) (v : th.Thread) → i < length ts → isDead (v .status) ≡ isDead (threadAt ts i .status) → (t : ℕ) → Live ts t → Live (set ts i v) t
 live-same ts i v l d t h =
     elim (ind-cases t i) [
       | inl e ↦ subst (λ (u : ℕ). Live (set ts i v) u) (sym (e .0)) (ap (λ (x : th.Thread). isDead (x .status)) (thread-same ts i v l) ∙ d ∙ subst (λ (u : ℕ). Live ts u) (e .0) h)
