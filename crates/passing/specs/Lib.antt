@@ -5,3 +5,4 @@ pub mod Timers
 pub mod Signal
 pub mod Widths
 pub mod Threads
+pub mod Tries
