@@ -6,3 +6,6 @@ pub mod Signal
 pub mod Widths
 pub mod Threads
 pub mod Tries
+pub mod Picks
+pub mod Switch
+pub mod Pass
