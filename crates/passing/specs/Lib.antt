@@ -9,3 +9,5 @@ pub mod Tries
 pub mod Picks
 pub mod Switch
 pub mod Pass
+pub mod Sleeps
+pub mod Begins

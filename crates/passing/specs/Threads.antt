@@ -92,7 +92,7 @@ module _ (k : Kernel) (p : Parts k) (i : ℕ) (live : Live (k .threads) i) (v : 
         clean = (p .clean .0, p .clean .1, o .full, o .overflow, p .clean .4, p .clean .5);
       }
 
-  live-after : (t : ℕ) → Live (k .threads) t → Live (set (k .threads) i v) t
+  pub live-after : (t : ℕ) → Live (k .threads) t → Live (set (k .threads) i v) t
   live-after t = live-same (k .threads) i v in-list dead-same t
 
   -- with the store as it is: the list names what it named

@@ -114,7 +114,7 @@ pub satisfied-in : (ts : List Thread) (s : ObjectStore) (w : ℕ) (all : Bool) (
 satisfied-in ts s w true os = pick-both (IndexOk (length os)) (allSignaled ts s w os) (SomeIndex 0) NoIndex (omega arith) tt
 satisfied-in ts s w false os = first-in ts s w (length os) os 0 (omega arith)
 
-take-length : (n : ℕ) (l : List ℕ) → length (take n l) ≤ length l
+pub take-length : (n : ℕ) (l : List ℕ) → length (take n l) ≤ length l
 take-length zero l = omega arith
 take-length (suc n) [] = omega arith
 take-length (suc n) (x ∷ l) = omega (arith, take-length n l)
