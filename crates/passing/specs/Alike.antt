@@ -1,6 +1,6 @@
 -- Slots anew that are alike: kind, chain, thread named and count are those before. What an object says of its signal may differ, and marks are free.
-use mathlib.Core.Path.{_≡_, refl, ap, _∙_}
-use mathlib.Core.Bool.{Bool, true, false}
+use mathlib.Core.Path.{_≡_, refl, ap}
+use mathlib.Core.Bool.{Bool, false}
 use mathlib.Core.List.{List, [], _∷_, map}
 use Prim.Native.Nat.{ℕ, zero, suc}
 use lib.ListN.{length, getD, set}
@@ -11,16 +11,16 @@ use Rattle.types.specs.declared.object.Slot.{Slot}
 use Rattle.types.specs.declared.object.ObjectStore.{ObjectStore}
 use Rattle.types.specs.declared.kernel.Kernel.{Kernel}
 use Rattle.block.proofs.Fits.{SlotFits}
-use Rattle.sound.specs.View.{noSlot, slotAt, objectAt}
+use Rattle.sound.specs.View.{noSlot, slotAt}
 use Rattle.sound.specs.Objects.{names, keptNames, ContentOk}
 use Rattle.object.specs.Slots.{slotPut, withSlots}
 use Rattle.thread.specs.Threads.{withThreads}
-use Rattle.soundness.specs.Slots.{kindAt, headAt, nextAt, refAt}
+use Rattle.soundness.specs.Slots.{kindAt, headAt, nextAt}
 use Rattle.soundness.specs.Objects.{Shape, shapeOf, slots-ok}
 use Rattle.soundness.specs.Records.{chains-same}
 use Rattle.soundness.specs.Fits.{KeepsFit, slot-of, of-slot, withSlots-fits}
 use Rattle.soundness.specs.Whole.{Parts}
-use Rattle.soundness.specs.Creates.{StoreOk, parts-store}
+use Rattle.soundness.specs.Creates.{StoreOk}
 use Rattle.pass.specs.Signal.{withOverflow}
 
 -- ---- rows of slots, one by one

@@ -1,8 +1,8 @@
 -- A current thread with no list that begins to wait on live objects leaves a sound state: each object of the list gains a name.
-use mathlib.Core.Path.{_≡_, refl, ap, sym, _∙_}
-use mathlib.Core.Bool.{Bool, true, false}
+use mathlib.Core.Path.{_≡_, refl, _∙_}
+use mathlib.Core.Bool.{Bool, false}
 use mathlib.Core.List.{List, [], _∷_}
-use Prim.Native.Nat.{ℕ, zero, suc, _+_, _-_, _^_, _≤_, _<_}
+use Prim.Native.Nat.{ℕ, zero, suc, _+_, _^_, _≤_, _<_}
 use native.Mathlib.Omega.{arith}
 use lib.ListN.{length, set, take, drop, length-map}
 use borrow.Author.Tests.{eqb-false}
@@ -31,7 +31,7 @@ use Rattle.soundness.specs.Waits.{begin-wait-ok}
 use Rattle.soundness.specs.Same.{addRefs-same}
 use Rattle.soundness.specs.Records.{chains-same}
 use Rattle.soundness.specs.Each.{each-addRefs}
-use Rattle.soundness.specs.Fits.{Word, z4, z8, addRefs-fits}
+use Rattle.soundness.specs.Fits.{z4, z8, addRefs-fits}
 use Rattle.soundness.specs.Fine.{addRefs-full}
 use Rattle.soundness.specs.Threads.{content-more}
 use Rattle.soundness.specs.Whole.{Parts, sound-parts, parts-sound, few-names}
@@ -40,7 +40,7 @@ use Rattle.pass.specs.Waits.{wakeTick, waiting, beginWaitAs, beginWait}
 use Rattle.passing.specs.Timers.{saturating-fits}
 use Rattle.passing.specs.Signal.{live-in}
 use Rattle.passing.specs.Threads.{live-ok, live-widths, Turned, place-parts, live-after}
-use Rattle.passing.specs.Tries.{take-length}
+use Rattle.passing.specs.Fates.{take-length}
 use Rattle.passing.specs.Switch.{current-live}
 use Rattle.passing.specs.Sleeps.{Unlisted, unlisted-zeros}
 
@@ -128,21 +128,7 @@ module _ (k : Kernel) (p : Parts k) (l : List ObjectId) (n : ℕ) (q : Waitable 
           ok = record { priority = u .priority; run = tt; list = q .places; only = tt };
           live = refl;
           tls = refl;
-          widths = record {
-            priority = w .priority;
-            entry = w .entry;
-            stack = w .stack;
-            tls = w .tls;
-            processor = w .processor;
-            count = omega (arith, few);
-            address = w .address;
-            index = z4;
-            guest = w .guest;
-            wakeup = wake-fits timeout tick;
-            since = w .since;
-            ids = places-fit n l (q .places);
-            size = q .size;
-          };
+          widths = record { own = w .own; wait = record { count = omega (arith, few); address = w .wait .address; wakeup = wake-fits timeout tick; ids = places-fit n l (q .places); size = q .size }; index = z4; since = w .since };
         }
 
     store : StoreOk (k .«thread_count») (set (k .threads) c waiter) (names (k .handles) (set (k .threads) c waiter)) (addRefs (k .objects) (take n (ids l)))

@@ -5,6 +5,8 @@ pub mod Timers
 pub mod Signal
 pub mod Widths
 pub mod Threads
+pub mod Awake
+pub mod Fates
 pub mod Tries
 pub mod Picks
 pub mod Switch

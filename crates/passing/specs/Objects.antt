@@ -2,13 +2,12 @@
 use mathlib.Core.Path.{_≡_, refl}
 use mathlib.Core.Bool.{Bool, true, false}
 use mathlib.Core.List.{List}
-use Prim.Native.Nat.{ℕ, _+_, _%_, _^_, _<_}
+use Prim.Native.Nat.{ℕ, _+_, _^_, _<_}
 use native.Mathlib.Omega.{arith}
 use lib.Dec.{ltb}
 use borrow.Author.Tests.{ltb-true}
 use Rattle.laws.specs.Logic.{pick}
 use Rattle.types.specs.declared.thread.TickOption.{TickOption}
-use Rattle.types.specs.declared.thread.ThreadOption.the-variants.{SomeThread}
 use Rattle.types.specs.declared.thread.Thread as th
 use Rattle.types.specs.declared.sync.Event as ev
 use Rattle.types.specs.declared.sync.Mutex as mu
@@ -20,8 +19,8 @@ use Rattle.types.specs.Thread.{tickValue}
 use Rattle.codec.proofs.Fit.{flag-fits}
 use Rattle.block.proofs.Enums.{tick-flag-fits}
 use Rattle.sound.specs.Objects.{Live}
-use Rattle.soundness.specs.Fits.{Word, KeepsFit, z4, z8}
-use Rattle.pass.specs.Signal.{staysSet, oneLess, acquired, clearedEvent, quieted}
+use Rattle.soundness.specs.Fits.{Word, KeepsFit}
+use Rattle.pass.specs.Signal.{staysSet, acquired, clearedEvent, quieted}
 use Rattle.pass.specs.Timers.{lostObject}
 use Rattle.passing.specs.Alike.{Like, like-same}
 

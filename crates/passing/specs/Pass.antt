@@ -1,6 +1,6 @@
 -- A pass leaves a sound state, unless a finding of it is up.
-use mathlib.Core.Path.{_≡_, refl, ap, sym, _∙_}
-use mathlib.Core.Bool.{Bool, true, false}
+use mathlib.Core.Path.{_≡_, ap, sym, _∙_}
+use mathlib.Core.Bool.{Bool, false}
 use mathlib.Core.List.{List}
 use Prim.Native.Nat.{ℕ, _^_, _<_}
 use native.Mathlib.Omega.{arith}
@@ -12,13 +12,13 @@ use Rattle.sound.specs.Sound.{Sound}
 use Rattle.thread.specs.Threads.{withThreads}
 use Rattle.soundness.specs.Whole.{Parts, sound-parts, parts-sound}
 use Rattle.pass.specs.declared.Waits.{Waits}
-use Rattle.pass.specs.Signal.{clearPulses}
 use Rattle.pass.specs.Timers.{fireTimers}
 use Rattle.pass.specs.Waits.{tryWaits}
 use Rattle.pass.specs.Pick.{pickNext}
-use Rattle.pass.specs.Schedule.{markWaited, beginRun, starving, flipped, chosen, chooseFrom, choose, tried, schedule}
+use Rattle.pass.specs.Schedule.{markWaited, beginRun, starving, flipped, chosen, choose, tried, schedule}
 use Rattle.passing.specs.Timers.{clear-overflow, fireTimers-parts, clearPulses-parts}
-use Rattle.passing.specs.Tries.{during, tryWaits-sticks, tryWaits-parts}
+use Rattle.passing.specs.Awake.{during}
+use Rattle.passing.specs.Tries.{tryWaits-sticks, tryWaits-parts}
 use Rattle.passing.specs.Picks.{Runs, pickNext-runs, chosen-runs}
 use Rattle.passing.specs.Switch.{mark-parts, begin-parts, begin-runs, switch-parts, switch-objects}
 

@@ -1,11 +1,11 @@
 -- Who is picked can run. A number without a thread reads as Dead, so nothing is asked of numbers.
-use mathlib.Core.Path.{_≡_, refl, ap, sym, _∙_}
+use mathlib.Core.Path.{_≡_, refl, _∙_}
 use mathlib.Core.Bool.{Bool, true, false, not}
 use mathlib.Core.List.{List, [], _∷_}
-use Prim.Native.Nat.{ℕ, zero, suc, _+_}
-use lib.Dec.{eqb, leb, ltb}
+use Prim.Native.Nat.{ℕ, zero, suc}
+use lib.Dec.{leb, ltb}
 use lib.ListN.{set}
-use Rattle.laws.specs.Logic.{pick, _and_, and-true, false-true}
+use Rattle.laws.specs.Logic.{pick, _and_, and-true}
 use Rattle.types.specs.declared.thread.ThreadStatus.{ThreadStatus}
 use Rattle.types.specs.declared.thread.ThreadStatus.the-variants.{Dead, Running, Ready, Sleeping, WaitSync, WaitArbiter, Dormant}
 use Rattle.types.specs.declared.thread.ThreadOption.{ThreadOption}

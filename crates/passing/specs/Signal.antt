@@ -1,22 +1,21 @@
 -- Signals, and what a wait takes of them, leave a state sound.
-use mathlib.Core.Path.{_≡_, refl, sym}
+use mathlib.Core.Path.{_≡_, sym}
 use mathlib.Core.Bool.{Bool, true, false, not}
 use mathlib.Core.Logic.{inl, inr}
 use mathlib.Core.List.{List, [], _∷_}
-use Prim.Native.Nat.{ℕ, _≤_, _<_}
+use Prim.Native.Nat.{ℕ, _<_}
 use native.Mathlib.Omega.{arith}
 use lib.ListN.{length, List·getD-eq-default}
-use Rattle.laws.specs.Logic.{pick, _and_, _or_, or-false, lt-cases, false-true}
+use Rattle.laws.specs.Logic.{_and_, _or_, or-false, lt-cases, false-true}
 use Rattle.types.specs.declared.thread.Thread as th
 use Rattle.types.specs.declared.object.KObject.{KObject}
 use Rattle.types.specs.declared.object.KObject.the-variants.{Free, Thread, Event, Mutex, Semaphore, Timer, AddressArbiter, Process, ResourceLimit}
 use Rattle.types.specs.declared.object.Slot.{Slot}
 use Rattle.types.specs.declared.object.ObjectStore.{ObjectStore}
 use Rattle.types.specs.declared.kernel.Kernel.{Kernel}
-use Rattle.types.specs.Thread.{isDead}
-use Rattle.sound.specs.View.{noThread, slotAt, objectAt, threadAt}
+use Rattle.sound.specs.View.{noThread, slotAt, objectAt}
 use Rattle.sound.specs.Objects.{names, Live}
-use Rattle.object.specs.Slots.{slotPut, withSlots, withObject, content}
+use Rattle.object.specs.Slots.{withObject, content}
 use Rattle.thread.specs.Threads.{withThreads}
 use Rattle.soundness.specs.Slots.{pick-both}
 use Rattle.soundness.specs.Fits.{Word}

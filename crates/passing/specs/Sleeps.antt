@@ -1,8 +1,7 @@
 -- A current thread with no list that goes to sleep leaves a sound state.
 use mathlib.Core.Path.{_≡_, refl, sym, _∙_}
-use mathlib.Core.Bool.{Bool, true, false}
 use mathlib.Core.List.{List}
-use Prim.Native.Nat.{ℕ, _<_}
+use Prim.Native.Nat.{ℕ}
 use Rattle.types.specs.declared.thread.ThreadOption.{ThreadOption}
 use Rattle.types.specs.declared.thread.ThreadOption.the-variants.{NoThread, SomeThread}
 use Rattle.types.specs.declared.thread.Thread.{Thread}
@@ -50,21 +49,7 @@ module _ (k : Kernel) (p : Parts k) (ticks tick : ℕ) where
         ok = record { priority = u .priority; run = tt; list = z; only = refl };
         live = refl;
         tls = refl;
-        widths = record {
-          priority = w .priority;
-          entry = w .entry;
-          stack = w .stack;
-          tls = w .tls;
-          processor = w .processor;
-          count = z4;
-          address = z4;
-          index = w .index;
-          guest = w .guest;
-          wakeup = saturating-fits tick ticks;
-          since = w .since;
-          ids = (z4, (z4, (z4, (z4, (z4, (z4, (z4, (z4, tt))))))));
-          size = refl;
-        };
+        widths = record { own = w .own; wait = record { count = z4; address = z4; wakeup = saturating-fits tick ticks; ids = (z4, (z4, (z4, (z4, (z4, (z4, (z4, (z4, tt)))))))); size = refl }; index = w .index; since = w .since };
       })
       (λ o q. zeros-count o (ids (v .«wait_objects»)) q z ∙ sym (zeros-count o (ids (threadAt (k .threads) c .«wait_objects»)) q (unlisted-zeros k p c live n)))
 

@@ -1,15 +1,14 @@
 -- The switch of a pass: at most the current thread is Running, and it is not Dead. A thread leaves the core, another becomes current, and it takes the core.
 use mathlib.Core.Path.{_≡_, refl, ap, sym, subst, _∙_}
 use mathlib.Core.Bool.{Bool, true, false}
-use mathlib.Core.Logic.{_≢_, inl, inr}
 use mathlib.Core.List.{List}
-use Prim.Native.Nat.{ℕ, _^_, _≤_, _<_}
+use Prim.Native.Nat.{ℕ, _^_, _<_}
 use native.Mathlib.Omega.{arith}
 use lib.Dec.{eqb}
-use lib.ListN.{length, set}
+use lib.ListN.{set}
 use lib.Seq.{set-getD}
 use borrow.Author.Tests.{eqb-true}
-use Rattle.laws.specs.Logic.{pick, lt-cases, false-true}
+use Rattle.laws.specs.Logic.{pick, false-true}
 use Rattle.types.specs.declared.thread.ThreadStatus.{ThreadStatus}
 use Rattle.types.specs.declared.thread.ThreadStatus.the-variants.{Dead, Running, Ready, Sleeping, WaitSync, WaitArbiter, Dormant}
 use Rattle.types.specs.declared.thread.ThreadOption.{ThreadOption}
@@ -19,7 +18,7 @@ use Rattle.types.specs.declared.object.ObjectStore.{ObjectStore}
 use Rattle.types.specs.declared.kernel.Kernel.{Kernel}
 use Rattle.types.specs.Thread.{isDead, threadValue}
 use Rattle.sound.specs.View.{noThread, threadAt}
-use Rattle.sound.specs.Threads.{RunOk, ThreadOk, CurrentOk}
+use Rattle.sound.specs.Threads.{RunOk, CurrentOk}
 use Rattle.sound.specs.Objects.{Live}
 use Rattle.thread.specs.Thread.{withStatus}
 use Rattle.thread.specs.Threads.{withThreads}
@@ -29,7 +28,7 @@ use Rattle.soundness.specs.Threads.{thread-same}
 use Rattle.soundness.specs.Whole.{Parts}
 use Rattle.pass.specs.declared.Passed.{Passed}
 use Rattle.pass.specs.Pick.{isRunnable, isRunning}
-use Rattle.pass.specs.Schedule.{withRun, markWaited, begun, beginRun, leaves, leaveCore, takeCore, isNone, scheduled, switchAs}
+use Rattle.pass.specs.Schedule.{withRun, markWaited, begun, beginRun, leaves, leaveCore, takeCore, scheduled, switchAs}
 use Rattle.passing.specs.Signal.{live-in}
 use Rattle.passing.specs.Threads.{live-used, live-ok, live-widths, run-parts, runs-live, status-parts}
 use Rattle.passing.specs.Picks.{canRun, Runs, running-runs, thread-f, runs-same}
@@ -93,17 +92,14 @@ module _ (k : Kernel) (p : Parts k) where
       go false = subst (λ (l : List Thread). Parts (withThreads k l (k .objects))) (sym (set-getD (k .threads) c noThread)) p
 
   -- ---- the current thread leaves the core
-  leave-as : (c : ThreadOption) → Parts (withThreads k (leaveCore (k .threads) c) (k .objects))
-  leave-as NoThread = p
-  leave-as (SomeThread c) = go (isRunning (threadAt (k .threads) c .status)) refl
+  pub leave-parts : (c : ThreadOption) → Parts (withThreads k (leaveCore (k .threads) c) (k .objects))
+  leave-parts NoThread = p
+  leave-parts (SomeThread c) = go (isRunning (threadAt (k .threads) c .status)) refl
     where
       go : (b : Bool) → isRunning (threadAt (k .threads) c .status) ≡ b
           → Parts (withThreads k (set (k .threads) c (pick b (withStatus (threadAt (k .threads) c) Ready) (threadAt (k .threads) c))) (k .objects))
       go true e = status-parts k p c (running-runs (threadAt (k .threads) c .status) e) Ready refl tt
       go false e = subst (λ (l : List Thread). Parts (withThreads k l (k .objects))) (sym (set-getD (k .threads) c noThread)) p
-
-  pub leave-parts : (c : ThreadOption) → Parts (withThreads k (leaveCore (k .threads) c) (k .objects))
-  leave-parts = leave-as
 
   -- ---- another thread is current, with nobody Running or with what runs as before
   pub current-parts : (next : ThreadOption) (relief : Bool) → CurrentOk next (k .«thread_count»)

@@ -1,9 +1,8 @@
 -- A thread's place anew: what it must be for the state to stay sound.
-use mathlib.Core.Path.{_≡_, refl, ap, sym, subst, _∙_}
+use mathlib.Core.Path.{_≡_, refl, sym, subst, _∙_}
 use mathlib.Core.Bool.{Bool, true, false}
 use mathlib.Core.Logic.{inl, inr}
-use mathlib.Core.List.{List, [], _∷_}
-use Prim.Native.Nat.{ℕ, zero, suc, _+_, _^_, _≤_, _<_}
+use Prim.Native.Nat.{ℕ, _^_, _<_}
 use native.Mathlib.Omega.{arith}
 use lib.ListN.{length, set, length-set}
 use Rattle.laws.specs.Logic.{lt-cases, false-true}
@@ -18,7 +17,7 @@ use Rattle.types.specs.declared.kernel.Kernel.{Kernel}
 use Rattle.types.specs.Thread.{isDead}
 use Rattle.block.proofs.Fits.{ThreadFits}
 use Rattle.sound.specs.View.{ids, threadAt}
-use Rattle.sound.specs.Threads.{Only, RunOk, ThreadOk, PlaceOk, ThreadsOk}
+use Rattle.sound.specs.Threads.{Only, RunOk, ThreadOk}
 use Rattle.sound.specs.Objects.{names, Live}
 use Rattle.thread.specs.Thread.{withStatus}
 use Rattle.thread.specs.Threads.{withThreads}
@@ -113,21 +112,7 @@ module _ (k : Kernel) (p : Parts k) (i : ℕ) (live : Live (k .threads) i) where
         ok = record { priority = u .priority; run = u .run; list = u .list; only = u .only };
         live = live;
         tls = refl;
-        widths = record {
-          priority = w .priority;
-          entry = w .entry;
-          stack = w .stack;
-          tls = w .tls;
-          processor = w .processor;
-          count = w .count;
-          address = w .address;
-          index = w .index;
-          guest = w .guest;
-          wakeup = w .wakeup;
-          since = f;
-          ids = w .ids;
-          size = w .size;
-        };
+        widths = record { own = w .own; wait = w .wait; index = w .index; since = f };
       }) (λ o z. refl)
 
 -- ---- a runnable thread in another status
@@ -166,19 +151,5 @@ module _ (k : Kernel) (p : Parts k) (i : ℕ) (runs : isRunnable (threadAt (k .t
         };
         live = a;
         tls = refl;
-        widths = record {
-          priority = w .priority;
-          entry = w .entry;
-          stack = w .stack;
-          tls = w .tls;
-          processor = w .processor;
-          count = w .count;
-          address = w .address;
-          index = w .index;
-          guest = w .guest;
-          wakeup = w .wakeup;
-          since = w .since;
-          ids = w .ids;
-          size = w .size;
-        };
+        widths = record { own = w .own; wait = w .wait; index = w .index; since = w .since };
       }) (λ o z. refl)

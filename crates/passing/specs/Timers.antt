@@ -1,8 +1,8 @@
 -- Timers that fire, pulses that end, and pulses that are lost leave a state sound.
-use mathlib.Core.Path.{_≡_, refl, ap}
+use mathlib.Core.Path.{_≡_, refl}
 use mathlib.Core.Bool.{Bool, true, false, not}
 use mathlib.Core.List.{List, [], _∷_, map}
-use Prim.Native.Nat.{ℕ, suc, _+_, _-_, _*_, _/_, _^_, _<_}
+use Prim.Native.Nat.{ℕ, suc, _+_, _-_, _/_, _^_, _<_}
 use native.Mathlib.Omega.{arith}
 use lib.Dec.{leb, ltb}
 use Rattle.laws.specs.Logic.{pick, _and_, _or_, or-false}
