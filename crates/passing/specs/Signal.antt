@@ -1,5 +1,5 @@
 -- Signals, and what a wait takes of them, leave a state sound.
-use mathlib.Core.Path.{_≡_, sym}
+use mathlib.Core.Path.{_≡_, refl, sym}
 use mathlib.Core.Bool.{Bool, true, false, not}
 use mathlib.Core.Logic.{inl, inr}
 use mathlib.Core.List.{List, [], _∷_}
@@ -61,7 +61,15 @@ module _ (n : ℕ) (ts : List th.Thread) (f : ℕ → ℕ) where
   unfolding clearEvent
   clearEvent-store s o h = content-store s o (clearedEvent (objectAt s o)) (cleared-like n ts (objectAt s o)) h
 
--- ---- `acquire`: the finding sticks
+-- ---- the finding is left alone by signals, and sticks in `acquire`
+pub signal-overflow : (s : ObjectStore) (ws : List th.Thread) (o : ℕ) → signalEvent s ws o .overflow ≡ s .overflow
+unfolding signalEvent
+signal-overflow s ws o = refl
+
+pub clearEvent-overflow : (s : ObjectStore) (o : ℕ) → clearEvent s o .overflow ≡ s .overflow
+unfolding clearEvent content
+clearEvent-overflow s o = refl
+
 pub acquire-sticks : (s : ObjectStore) (o w : ℕ) → acquire s o w .overflow ≡ false → s .overflow ≡ false
 unfolding acquire
 acquire-sticks s o w e = or-false (s .overflow) (acquireOver (objectAt s o)) e .0
