@@ -1,16 +1,18 @@
 -- The exported operations: question 1, question 2, their own questions, the work, questions 7 and 8.
-use mathlib.Core.Bool.{Bool, true, false}
-use mathlib.Core.List.{List, _++_}
-use Prim.Native.Nat.{ℕ, _*_}
+use mathlib.Core.Bool.{Bool, true, false, not}
+use mathlib.Core.List.{List, _++_, map}
+use Prim.Native.Nat.{ℕ, _*_, _/_, _%_}
 use lib.Dec.{eqb, ltb}
 use lib.ListN.{length, replicate, take, drop}
 use Rattle.laws.specs.Logic.{pick, _and_, _or_}
-use Rattle.codec.specs.Bytes.{bytes, over}
+use Rattle.codec.specs.Bytes.{num, bytes, over}
+use Rattle.codec.specs.Layout.{encAll, decAll}
 use Rattle.types.specs.declared.thread.ThreadOption.{ThreadOption}
 use Rattle.types.specs.declared.thread.ThreadOption.the-variants.{NoThread, SomeThread}
 use Rattle.types.specs.declared.thread.TickOption.{TickOption}
 use Rattle.types.specs.declared.kernel.Kernel.{Kernel}
 use Rattle.types.specs.Thread.{isDead, tickFlag, tickValue}
+use Rattle.block.specs.Table.{encId}
 use Rattle.block.specs.Context.{encContext}
 use Rattle.block.specs.Block.{encBlock, decBlock}
 use Rattle.sound.specs.View.{threadAt}
@@ -19,7 +21,13 @@ use Rattle.kernel.specs.Fresh.{fresh}
 use Rattle.kernel.specs.NextEvent as kernel
 use Rattle.thread.specs.Thread.{newContext}
 use Rattle.thread.specs.Threads as thread
+use Rattle.pass.specs.declared.IndexOption.{IndexOption}
+use Rattle.pass.specs.declared.IndexOption.the-variants.{NoIndex, SomeIndex}
+use Rattle.pass.specs.declared.Satisfied.{Satisfied}
+use Rattle.pass.specs.declared.Release.{Release}
+use Rattle.pass.specs.declared.Release.the-variants.{NotQuiet, CountsDown, Frees}
 use Rattle.pass.specs.declared.Passed.{Passed}
+use Rattle.pass.specs.Asks as asks
 use Rattle.pass.specs.Schedule as pass
 use Rattle.host.specs.Lent.{Lent, lent, withAnswer, withBlock, Back, back}
 
@@ -109,3 +117,52 @@ unfoldable pub schedule : ℕ → Lent → Back
 schedule tick l =
     change (eqb (length (l .block)) 16384 and (eqb (length (l .bank)) 6656 and (eqb (length (l .processor)) 208 and eqb (length (l .answer)) 4))) (λ k. 0)
     (λ k. pass.schedule k tick .kernel) (λ k. passWritten l (pass.schedule k tick)) l
+
+-- ---- what a wait would find
+-- the handles of a list, four bytes each
+abbrev pub words : List ℕ → List ℕ
+words s = decAll num 4 (length s / 4) s 0
+
+-- 1 and the index, or 0 and 0
+abbrev pub indexFlag : IndexOption → ℕ
+indexFlag NoIndex = 0
+indexFlag (SomeIndex i) = 1
+
+abbrev pub indexValue : IndexOption → ℕ
+indexValue NoIndex = 0
+indexValue (SomeIndex i) = i
+
+-- the flag, the index, and the eight object numbers
+abbrev pub satisfiedBytes : Satisfied → List ℕ
+satisfiedBytes r = (bytes 4 (indexFlag (r .index)) ++ bytes 4 (indexValue (r .index))) ++ encAll encId (r .objects)
+
+-- a list of handles is whole words; a wait for all is any number but 0
+unfoldable pub satisfiedNow : List ℕ → ℕ → ℕ → Lent → Back
+satisfiedNow handles all tick l =
+    inspect (eqb (length (l .block)) 16384 and (eqb (length handles % 4) 0 and eqb (length (l .answer)) 40))
+    (λ k. satisfiedBytes (asks.satisfiedNow k (words handles) (not (eqb all 0)) tick)) l
+
+-- ---- what letting go of a mutex would do
+-- found or not
+abbrev pub releaseFlag : Release → ℕ
+releaseFlag NotQuiet = 0
+releaseFlag (CountsDown o) = 1
+releaseFlag (Frees o) = 1
+
+abbrev pub releaseObject : Release → ℕ
+releaseObject NotQuiet = 0
+releaseObject (CountsDown o) = o .0
+releaseObject (Frees o) = o .0
+
+-- whether the mutex becomes free
+abbrev pub releaseFrees : Release → ℕ
+releaseFrees NotQuiet = 0
+releaseFrees (CountsDown o) = 0
+releaseFrees (Frees o) = 1
+
+abbrev pub releaseBytes : Release → List ℕ
+releaseBytes r = (bytes 4 (releaseFlag r) ++ bytes 4 (releaseObject r)) ++ bytes 4 (releaseFrees r)
+
+unfoldable pub quietRelease : ℕ → ℕ → Lent → Back
+quietRelease handle tick l =
+    inspect (eqb (length (l .block)) 16384 and eqb (length (l .answer)) 12) (λ k. releaseBytes (asks.quietRelease k handle tick)) l

@@ -14,6 +14,7 @@ use Rattle.laws.specs.Count.{count, countAll, ind, ind-eq, ind-other}
 use Rattle.laws.specs.Tally.{tallyAll, tallyAll-get, zero-get, zero-le}
 use Rattle.types.specs.declared.thread.TickOption.{TickOption}
 use Rattle.types.specs.declared.thread.TickOption.the-variants.{NoTick, SomeTick}
+use Rattle.types.specs.declared.thread.ThreadStatus.{ThreadStatus}
 use Rattle.types.specs.declared.thread.Thread.{Thread}
 use Rattle.types.specs.declared.object.Slot.{Slot}
 use Rattle.types.specs.Thread.{isBlocked}
@@ -21,9 +22,12 @@ use Rattle.sound.specs.View.{ids}
 use Rattle.kernel.specs.declared.next_event.Earliest.{Earliest}
 use Rattle.kernel.specs.NextEvent.{contains, waitedOn, dueAfter, nextDue}
 
--- the list of a thread, if it is blocked
+-- the list of a thread, if its status is one that is asked for
+abbrev pub listBy : (ThreadStatus → Bool) → Thread → List ℕ
+listBy asked t = pick (asked (t .status)) (ids (t .«wait_objects»)) []
+
 abbrev pub listIf : Thread → List ℕ
-listIf t = pick (isBlocked (t .status)) (ids (t .«wait_objects»)) []
+listIf t = listBy isBlocked t
 
 abbrev pub listsIf : List Thread → List (List ℕ)
 listsIf ts = map listIf ts
@@ -56,19 +60,29 @@ unfolding _or_
 or-sum zero b = let e : b ≡ 0 + b = omega arith in ap (ltb 0) e
 or-sum (suc a) b = rw (lt-ltb 0 (suc a) (omega arith)) (sym (lt-ltb 0 (suc a + b) (omega arith)))
 
-pub waited-is : (ts : List Thread) (o : ℕ) → waitedOn ts o ≡ ltb 0 (countAll o (listsIf ts))
-unfolding waitedOn countAll
-waited-is [] o = refl
-waited-is (t ∷ ts) o =
-    rw (if-is (isBlocked (t .status)) (ids (t .«wait_objects»)) o, waited-is ts o) (or-sum (count o (listIf t)) (countAll o (listsIf ts)))
+-- the marks tell what threads of a kind of status wait on, for any test of an object that says so
+module _ (asked : ThreadStatus → Bool) (waited : List Thread → ℕ → Bool) (none : (o : ℕ) → waited [] o ≡ false)
+    (more : (t : Thread) (ts : List Thread) (o : ℕ) → waited (t ∷ ts) o ≡ (asked (t .status) and contains (ids (t .«wait_objects»)) o) or waited ts o) where
+  waited-is : (ts : List Thread) (o : ℕ) → waited ts o ≡ ltb 0 (countAll o (map (listBy asked) ts))
+  unfolding countAll
+  waited-is [] o = none o
+  waited-is (t ∷ ts) o =
+      more t ts o
+      ∙ rw (if-is (asked (t .status)) (ids (t .«wait_objects»)) o, waited-is ts o) (or-sum (count o (listBy asked t)) (countAll o (map (listBy asked) ts)))
+
+  pub marks-tell : (ts : List Thread) → length ts ≡ 32 → All (λ l. length l ≤ 8) (map (listBy asked) ts) → (o : ℕ) → o < 129
+      → ltb 0 (getD (tallyAll 129 (replicate 129 0) (map (listBy asked) ts)) o 0) ≡ waited ts o
+  marks-tell ts n a o h =
+      let ls = map (listBy asked) ts in
+      let e : getD (tallyAll 129 (replicate 129 0) ls) o 0 ≡ countAll o ls =
+      omega (arith, tallyAll-get 129 8 ls (replicate 129 0) 0 a refl (zero-le 129) (omega (arith, length-map ts (listBy asked))) o h, zero-get 129 o) in
+      ap (ltb 0) e ∙ sym (waited-is ts o)
 
 -- ---- the marks tell who is waited on
 module _ (ts : List Thread) (n : length ts ≡ 32) (a : All (λ l. length l ≤ 8) (listsIf ts)) where
   marked : (o : ℕ) → o < 129 → ltb 0 (getD (tallyAll 129 (replicate 129 0) (listsIf ts)) o 0) ≡ waitedOn ts o
-  marked o h =
-      let e : getD (tallyAll 129 (replicate 129 0) (listsIf ts)) o 0 ≡ countAll o (listsIf ts) =
-      omega (arith, tallyAll-get 129 8 (listsIf ts) (replicate 129 0) 0 a refl (zero-le 129) (omega (arith, length-map ts listIf)) o h, zero-get 129 o) in
-      ap (ltb 0) e ∙ sym (waited-is ts o)
+  unfolding waitedOn
+  marked o h = marks-tell isBlocked waitedOn (λ o. refl) (λ t ts o. refl) ts n a o h
 
   pub due-is : (best : TickOption) (o : ℕ) (l : List Slot) → o + length l ≤ 129 → dueMarked (tallyAll 129 (replicate 129 0) (listsIf ts)) best o l ≡ nextDue ts best o l
   unfolding dueMarked nextDue

@@ -1,23 +1,21 @@
 // Whether an object is signalled, and what a wait takes of it (`is_signaled`, `acquire`).
-use object::slots;
-use object::store;
 use types::object::KObject;
 use types::object::ObjectStore;
+use types::object::Slot;
 use types::sync::Event;
 use types::sync::Mutex;
 use types::sync::ResetType;
 use types::sync::Semaphore;
 use types::sync::Timer;
-use types::thread::Thread;
 use types::thread::ThreadOption;
 use units::ObjectId;
 ghost use mathlib.Core.Path.{_≡_};
-ghost use Prim.Native.Nat.{_+_, _<_};
+ghost use Prim.Native.Nat.{_+_, _-_, _<_, _≤_};
 ghost use lib.Dec.{ltb, eqb};
 ghost use lib.ListN.{take};
-ghost use Rattle.laws.specs.Logic.{pick, _or_};
-ghost use Rattle.types.specs.Thread.{isDead};
-ghost use Rattle.sound.specs.View.{ids, threadAt};
+ghost use Rattle.laws.specs.Logic.{pick, _and_, _or_};
+ghost use Rattle.sound.specs.View.{ids};
+ghost use Rattle.object.specs.Slots.{withObject};
 ghost use Rattle.pass.specs.Signal as def;
 ghost use Rattle.signal.specs.Looks.{threadNamed, signaledFor};
 
@@ -37,6 +35,13 @@ fn free_for(owner: ThreadOption, w: u32) -> bool
         ThreadOption::NoThread => true,
         ThreadOption::SomeThread(u) => u == w,
     }
+}
+
+fn mutex_free(m: Mutex, w: u32) -> bool
+    ensures { λ r. ⌜ r ≡ def.freeFor (m .owner) w ⌝ }
+{
+    let owner = m.owner;
+    free_for(owner, w)
 }
 
 // The thread that a thread object names; 32, a place of no thread, for another kind.
@@ -64,7 +69,7 @@ pub fn is_signaled(x: KObject, gone: bool, w: u32) -> bool
         KObject::Free(_n) => true,
         KObject::Thread(_u) => gone,
         KObject::Event(e) => e.signaled,
-        KObject::Mutex(m) => free_for(m.owner, w),
+        KObject::Mutex(m) => mutex_free(m, w),
         KObject::Semaphore(s) => positive(s.count),
         KObject::Timer(t) => t.signaled,
         KObject::AddressArbiter(_a) => true,
@@ -179,21 +184,58 @@ fn acquire_over(x: KObject) -> bool
     }
 }
 
+// What becomes of the slot of an object that is acquired.
+fn acquired_slot(s: Slot, w: u32) -> Slot
+    ensures { λ r. ⌜ r ≡ withObject s (def.acquired (s .object) w) ⌝ }
+{
+    let x = s.object;
+    let y = acquired(x, w);
+    Slot {
+        object: y,
+        refcount: s.refcount,
+        pulsed: s.pulsed,
+    }
+}
+
+fn over_after(before: bool, s: Slot) -> bool
+    ensures { λ r. ⌜ r ≡ (before or def.acquireOver (s .object)) ⌝ }
+{
+    if before {
+        return true;
+    }
+    let x = s.object;
+    acquire_over(x)
+}
+
 pub fn acquire(s: ObjectStore, o: ObjectId, w: u32) -> ObjectStore
     ensures { λ r. ⌜ r ≡ def.acquire s (o .0) w ⌝ }
 {
-    let old = slots::slot_at(s, o);
-    let x = old.object;
-    let y = acquired(x, w);
-    let mut q = store::content(s, o, y);
-    if acquire_over(x) {
-        q.overflow = true;
-        return q;
+    let k = o.0;
+    if k == 0 {
+        return s;
     }
+    if 128 < k {
+        return s;
+    }
+    let j = (k - 1) as usize;
+    let mut q = s;
+    let old = q.slots[j];
+    q.overflow = over_after(q.overflow, old);
+    q.slots[j] = acquired_slot(old, w);
     q
 }
 
-// The first n of the list, one after the other.
+// A number that some slot has.
+fn is_slot(k: u32) -> bool
+    ensures { λ r. ⌜ r ≡ (ltb 0 k and ltb k 129) ⌝ }
+{
+    if k == 0 {
+        return false;
+    }
+    k < 129
+}
+
+// The first n of the list, one after the other; in place, since a store handed over would be copied for each.
 pub fn acquire_list(s: ObjectStore, l: [ObjectId; 8], n: u32, w: u32) -> ObjectStore
     ensures { λ r. ⌜ r ≡ def.acquires s (take n (ids l)) w ⌝ }
 {
@@ -204,7 +246,13 @@ pub fn acquire_list(s: ObjectStore, l: [ObjectId; 8], n: u32, w: u32) -> ObjectS
             return q;
         }
         let o = l[i];
-        q = acquire(q, o, w);
+        let k = o.0;
+        if is_slot(k) {
+            let j = (k - 1) as usize;
+            let old = q.slots[j];
+            q.overflow = over_after(q.overflow, old);
+            q.slots[j] = acquired_slot(old, w);
+        }
         i += 1;
     }
     q

@@ -1,4 +1,5 @@
 // Events (`signal_event`, `clear_event`).
+use crate::pulse;
 use object::slots;
 use object::store;
 use types::object::KObject;
@@ -31,7 +32,7 @@ pub fn waits_sync(s: ThreadStatus) -> bool
     }
 }
 
-fn contains_id(l: [ObjectId; 8], o: u32) -> bool
+pub fn contains_id(l: [ObjectId; 8], o: u32) -> bool
     ensures { λ r. ⌜ r ≡ contains (ids l) o ⌝ }
 {
     let mut i: usize = 0;
@@ -140,10 +141,7 @@ fn cleared_event(x: KObject) -> KObject
     match x {
         KObject::Free(n) => KObject::Free(n),
         KObject::Thread(u) => KObject::Thread(u),
-        KObject::Event(e) => KObject::Event(Event {
-            reset_type: e.reset_type,
-            signaled: false,
-        }),
+        KObject::Event(e) => KObject::Event(pulse::quiet_event(e)),
         KObject::Mutex(m) => KObject::Mutex(m),
         KObject::Semaphore(s) => KObject::Semaphore(s),
         KObject::Timer(t) => KObject::Timer(t),

@@ -5,10 +5,34 @@ use types::object::Slot;
 use types::sync::Event;
 use types::sync::Timer;
 ghost use mathlib.Core.Path.{_≡_};
-ghost use mathlib.Core.List.{map};
+ghost use mathlib.Core.Bool.{false};
 ghost use Prim.Native.Nat.{_+_, _-_, _<_, _≤_};
 ghost use lib.ListN.{length};
 ghost use Rattle.pass.specs.Signal as def;
+
+pub fn quiet_event(e: Event) -> Event
+    ensures { λ r. ⌜ r ≡ record { «reset_type» = e .«reset_type»; signaled = false } ⌝ }
+{
+    let kind = e.reset_type;
+    Event {
+        reset_type: kind,
+        signaled: false,
+    }
+}
+
+pub fn quiet_timer(t: Timer) -> Timer
+    ensures { λ r. ⌜ r ≡ record { «reset_type» = t .«reset_type»; signaled = false; «fire_at» = t .«fire_at»; interval = t .interval } ⌝ }
+{
+    let kind = t.reset_type;
+    let at = t.fire_at;
+    let interval = t.interval;
+    Timer {
+        reset_type: kind,
+        signaled: false,
+        fire_at: at,
+        interval: interval,
+    }
+}
 
 fn quieted(x: KObject) -> KObject
     ensures { λ r. ⌜ r ≡ def.quieted x ⌝ }
@@ -16,18 +40,10 @@ fn quieted(x: KObject) -> KObject
     match x {
         KObject::Free(n) => KObject::Free(n),
         KObject::Thread(u) => KObject::Thread(u),
-        KObject::Event(e) => KObject::Event(Event {
-            reset_type: e.reset_type,
-            signaled: false,
-        }),
+        KObject::Event(e) => KObject::Event(quiet_event(e)),
         KObject::Mutex(m) => KObject::Mutex(m),
         KObject::Semaphore(s) => KObject::Semaphore(s),
-        KObject::Timer(t) => KObject::Timer(Timer {
-            reset_type: t.reset_type,
-            signaled: false,
-            fire_at: t.fire_at,
-            interval: t.interval,
-        }),
+        KObject::Timer(t) => KObject::Timer(quiet_timer(t)),
         KObject::AddressArbiter(a) => KObject::AddressArbiter(a),
         KObject::Process => KObject::Process,
         KObject::ResourceLimit => KObject::ResourceLimit,
@@ -37,41 +53,30 @@ fn quieted(x: KObject) -> KObject
 fn unpulsed_slot(s: Slot) -> Slot
     ensures { λ r. ⌜ r ≡ def.unpulsedSlot s ⌝ }
 {
-    let x = s.object;
-    if s.pulsed {
-        let y = quieted(x);
-        return Slot {
-            object: y,
-            refcount: s.refcount,
-            pulsed: false,
-        };
+    if !s.pulsed {
+        return s;
     }
+    let x = s.object;
+    let y = quieted(x);
     Slot {
-        object: x,
+        object: y,
         refcount: s.refcount,
         pulsed: false,
     }
 }
 
-fn unpulsed_slots(slots: [Slot; 128]) -> [Slot; 128]
-    ensures { λ r. ⌜ r ≡ map def.unpulsedSlot slots ⌝ }
-{
-    let mut l = slots;
-    let mut i: usize = 0;
-    while i < 128 {
-        l[i] = unpulsed_slot(l[i]);
-        i += 1;
-    }
-    l
-}
-
 pub fn clear_pulses(s: ObjectStore) -> ObjectStore
     ensures { λ r. ⌜ r ≡ def.clearPulses s ⌝ }
 {
-    let slots = s.slots;
-    let l = unpulsed_slots(slots);
     let mut q = s;
-    q.slots = l;
+    let mut i: usize = 0;
+    while i < 128 {
+        let old = q.slots[i];
+        if old.pulsed {
+            q.slots[i] = unpulsed_slot(old);
+        }
+        i += 1;
+    }
     q
 }
 

@@ -9,7 +9,6 @@ use types::thread::Thread;
 use types::thread::TickOption;
 use units::Ticks;
 ghost use mathlib.Core.Path.{_≡_};
-ghost use mathlib.Core.List.{map};
 ghost use Prim.Native.Nat.{_+_, _-_, _<_, _≤_};
 ghost use lib.Dec.{leb};
 ghost use lib.ListN.{length};
@@ -18,7 +17,7 @@ ghost use Rattle.kernel.specs.NextEvent.{dueOf};
 ghost use Rattle.pass.specs.Signal.{isPulse};
 ghost use Rattle.pass.specs.Timers as def;
 
-fn due_by(at: TickOption, tick: u64) -> bool
+pub fn due_by(at: TickOption, tick: u64) -> bool
     ensures { λ r. ⌜ r ≡ def.dueBy at tick ⌝ }
 {
     match at {
@@ -125,18 +124,6 @@ fn fired_slot(tick: u64, s: Slot) -> Slot
     fired_as(s, x, tick)
 }
 
-fn fired_slots(tick: u64, slots: [Slot; 128]) -> [Slot; 128]
-    ensures { λ r. ⌜ r ≡ map (def.firedSlot tick) slots ⌝ }
-{
-    let mut l = slots;
-    let mut i: usize = 0;
-    while i < 128 {
-        l[i] = fired_slot(tick, l[i]);
-        i += 1;
-    }
-    l
-}
-
 fn over_by(at: u64, interval: u64, tick: u64) -> bool
     ensures { λ r. ⌜ r ≡ (leb at tick and def.periodsOver at interval tick) ⌝ }
 {
@@ -189,31 +176,13 @@ fn slot_over(s: Slot, tick: u64) -> bool
     over_of(x, tick)
 }
 
-fn any_over(tick: u64, l: [Slot; 128]) -> bool
-    ensures { λ r. ⌜ r ≡ def.anyOver tick l ⌝ }
+fn over_after(before: bool, s: Slot, tick: u64) -> bool
+    ensures { λ r. ⌜ r ≡ (before or def.overOf (s .object) tick) ⌝ }
 {
-    let mut i: usize = 0;
-    while i < 128 {
-        if slot_over(l[i], tick) {
-            return true;
-        }
-        i += 1;
+    if before {
+        return true;
     }
-    false
-}
-
-pub fn fire_timers(s: ObjectStore, tick: u64) -> ObjectStore
-    ensures { λ r. ⌜ r ≡ def.fireTimers s tick ⌝ }
-{
-    let slots = s.slots;
-    let l = fired_slots(tick, slots);
-    let mut q = s;
-    q.slots = l;
-    if any_over(tick, slots) {
-        q.overflow = true;
-        return q;
-    }
-    q
+    slot_over(s, tick)
 }
 
 fn slot_due(s: Slot, tick: u64) -> bool
@@ -222,6 +191,22 @@ fn slot_due(s: Slot, tick: u64) -> bool
     let x = s.object;
     let at = next_event::due_of(x);
     due_by(at, tick)
+}
+
+pub fn fire_timers(s: ObjectStore, tick: u64) -> ObjectStore
+    ensures { λ r. ⌜ r ≡ def.fireTimers s tick ⌝ }
+{
+    let mut q = s;
+    let mut i: usize = 0;
+    while i < 128 {
+        let old = q.slots[i];
+        if slot_due(old, tick) {
+            q.overflow = over_after(q.overflow, old, tick);
+            q.slots[i] = fired_slot(tick, old);
+        }
+        i += 1;
+    }
+    q
 }
 
 pub fn timer_due(tick: u64, l: [Slot; 128]) -> bool
@@ -235,43 +220,4 @@ pub fn timer_due(tick: u64, l: [Slot; 128]) -> bool
         i += 1;
     }
     false
-}
-
-fn lost_object(x: KObject) -> KObject
-    ensures { λ r. ⌜ r ≡ def.lostObject x ⌝ }
-{
-    match x {
-        KObject::Free(n) => KObject::Free(n),
-        KObject::Thread(u) => KObject::Thread(u),
-        KObject::Event(e) => KObject::Event(e),
-        KObject::Mutex(m) => KObject::Mutex(m),
-        KObject::Semaphore(s) => KObject::Semaphore(s),
-        KObject::Timer(t) => KObject::Timer(Timer {
-            reset_type: t.reset_type,
-            signaled: false,
-            fire_at: t.fire_at,
-            interval: t.interval,
-        }),
-        KObject::AddressArbiter(a) => KObject::AddressArbiter(a),
-        KObject::Process => KObject::Process,
-        KObject::ResourceLimit => KObject::ResourceLimit,
-    }
-}
-
-fn lost_slot(waited: bool, s: Slot) -> Slot
-    ensures { λ r. ⌜ r ≡ def.lostSlot waited s ⌝ }
-{
-    if !s.pulsed {
-        return s;
-    }
-    if waited {
-        return s;
-    }
-    let x = s.object;
-    let y = lost_object(x);
-    Slot {
-        object: y,
-        refcount: s.refcount,
-        pulsed: false,
-    }
 }

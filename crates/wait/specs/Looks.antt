@@ -19,6 +19,7 @@ use Rattle.sound.specs.View.{objectAt, slotAt, noSlot, slotAt-pos, slotAt-out, 
 use Rattle.thread.specs.Marks.{slotIndex}
 use Rattle.pass.specs.declared.IndexOption.{IndexOption}
 use Rattle.pass.specs.declared.IndexOption.the-variants.{NoIndex, SomeIndex}
+use Rattle.signal.specs.Looks.{threadNamed, signaledFor, signaled-is}
 use Rattle.pass.specs.Signal.{isSignaled}
 use Rattle.pass.specs.Waits.{allSignaled, firstSignaled}
 
@@ -46,13 +47,13 @@ pub gone-is : (ts : List th.Thread) (u : ℕ) → length ts ≡ 32 → pick (ltb
 gone-is ts u n = gone-as ts u n (ltb u 32) refl
 
 -- the place of the first whose signal is as wanted
-abbrev pub as : Bool → Bool → Bool
-as true b = b
-as false b = not b
+abbrev pub asWanted : Bool → Bool → Bool
+asWanted true b = b
+asWanted false b = not b
 
 unfoldable pub firstWhere : List th.Thread → List Slot → ℕ → Bool → ℕ → List ℕ → IndexOption
 firstWhere ts l w want i [] = NoIndex
-firstWhere ts l w want i (o ∷ os) = pick (as want (isSignaled ts (slotAt l o .object) w)) (SomeIndex i) (firstWhere ts l w want (i + 1) os)
+firstWhere ts l w want i (o ∷ os) = pick (asWanted want (isSignaled ts (slotAt l o .object) w)) (SomeIndex i) (firstWhere ts l w want (i + 1) os)
 
 abbrev pub none : IndexOption → Bool
 none NoIndex = true
@@ -72,3 +73,9 @@ all-is ts s w i (o ∷ os) = go (isSignaled ts (objectAt s o) w) (all-is ts s w 
         → none (pick (not b) (SomeIndex i) (firstWhere ts (s .slots) w false (i + 1) os)) ≡ b and allSignaled ts s w os
     go true e = e
     go false e = refl
+
+-- an object's signal for a thread, with the look at the slot and at the thread that the object names
+pub look-is : (ts : List th.Thread) (l : List Slot) (o w : ℕ) → length ts ≡ 32 → length l ≡ 128
+    → (let x : KObject = objectIn o (getD l (slotIndex o) noSlot) in
+    signaledFor x (pick (ltb (threadNamed x) 32) (isDead (getD ts (pick (ltb (threadNamed x) 32) (threadNamed x) 0) noThread .status)) true) w ≡ isSignaled ts (slotAt l o .object) w)
+look-is ts l o w n m = rw (object-is l o m, gone-is ts (threadNamed (slotAt l o .object)) n) (signaled-is ts (slotAt l o .object) w)

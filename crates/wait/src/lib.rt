@@ -1,5 +1,4 @@
 // Waits: what satisfies one, what a pass does with it, how one begins.
-pub mod begin;
 pub mod fate;
 pub mod satisfy;
 pub mod tries;

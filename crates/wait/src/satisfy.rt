@@ -16,7 +16,7 @@ ghost use Rattle.laws.specs.Logic.{pick};
 ghost use Rattle.types.specs.Thread.{isDead};
 ghost use Rattle.sound.specs.View.{ids};
 ghost use Rattle.pass.specs.Waits.{satisfiedAt};
-ghost use Rattle.wait.specs.Looks.{objectIn, as, firstWhere, none};
+ghost use Rattle.wait.specs.Looks.{objectIn, asWanted, firstWhere, none};
 
 fn object_in(o: u32, x: Slot) -> KObject
     ensures { λ r. ⌜ r ≡ objectIn o x ⌝ }
@@ -53,7 +53,7 @@ fn is_gone(u: u32, t: Thread) -> bool
 }
 
 fn wanted(want: bool, b: bool) -> bool
-    ensures { λ r. ⌜ r ≡ as want b ⌝ }
+    ensures { λ r. ⌜ r ≡ asWanted want b ⌝ }
 {
     if want {
         return b;

@@ -1,0 +1,56 @@
+-- An object that is acquired, by the code's cases. Assumes nothing.
+use mathlib.Core.Path.{_≡_, refl, ap, sym, _∙_}
+use mathlib.Core.Bool.{true, false}
+use mathlib.Core.Logic.{_≢_, inl, inr}
+use Prim.Native.Nat.{ℕ, _-_, _<_}
+use native.Mathlib.Omega.{arith}
+use lib.Dec.{ltb}
+use lib.ListN.{length, getD, set}
+use borrow.Author.Tests.{ltb-true, lt-ltb}
+use Rattle.laws.specs.Logic.{_and_, _or_, and-true, true-and, false-true, lt-cases}
+use Rattle.types.specs.declared.object.Slot.{Slot}
+use Rattle.types.specs.declared.object.ObjectStore.{ObjectStore}
+use Rattle.sound.specs.View.{noSlot, slotAt, slotAt-pos, slotAt-out}
+use Rattle.object.specs.Slots.{withSlots, withObject, slotPut, content}
+use Rattle.object.proofs.Laws.{slotAt-none, slotPut-none, slotPut-pos, slotPut-far, or-end}
+use Rattle.pass.specs.Signal.{acquired, acquireOver, withOverflow, acquire}
+
+-- a number that a slot has
+pub slot-in : (k : ℕ) → ltb 0 k and ltb k 129 ≡ true → (0 < k) × (k < 129)
+slot-in k e = let p = and-true (ltb 0 k) (ltb k 129) e in (ltb-true 0 k (p .0), ltb-true k 129 (p .1))
+
+module _ (s : ObjectStore) (k w : ℕ) where
+  acquire-as : (v : Slot) → slotAt (s .slots) k ≡ v
+      → acquire s k w ≡ withOverflow (withSlots s (slotPut (s .slots) k (withObject v (acquired (v .object) w)))) (s .overflow or acquireOver (v .object))
+  unfolding acquire content
+  acquire-as v e = ap (λ (z : Slot). withOverflow (withSlots s (slotPut (s .slots) k (withObject z (acquired (z .object) w)))) (s .overflow or acquireOver (z .object))) e
+
+  pub acquire-none : k ≡ 0 → acquire s k w ≡ s
+  acquire-none e =
+      acquire-as noSlot (slotAt-none (s .slots) k e)
+      ∙ ap (λ z. withOverflow (withSlots s z) (s .overflow or false)) (slotPut-none (s .slots) k noSlot e)
+      ∙ ap (λ b. withOverflow s b) (or-end (s .overflow))
+
+  pub acquire-far : length (s .slots) < k → acquire s k w ≡ s
+  acquire-far h =
+      acquire-as noSlot (slotAt-out (s .slots) k (λ p. h))
+      ∙ ap (λ z. withOverflow (withSlots s z) (s .overflow or false)) (slotPut-far (s .slots) k noSlot h)
+      ∙ ap (λ b. withOverflow s b) (or-end (s .overflow))
+
+  pub acquire-out : length (s .slots) ≡ 128 → ltb 0 k and ltb k 129 ≡ false → acquire s k w ≡ s
+  acquire-out n e =
+      elim (lt-cases 0 k) [
+        | inl h ↦ elim (lt-cases k 129) [
+          | inl g ↦ false-true (sym e ∙ true-and (ltb 0 k) (ltb k 129) (lt-ltb 0 k h) (lt-ltb k 129 g))
+          | inr g ↦ acquire-far (omega arith)
+        ]
+        | inr h ↦ acquire-none (omega arith)
+      ]
+
+  abbrev old : Slot
+  old = getD (s .slots) (k - 1) noSlot
+
+  pub acquire-in : k ≢ 0 → acquire s k w ≡ withOverflow (withSlots s (set (s .slots) (k - 1) (withObject old (acquired (old .object) w)))) (s .overflow or acquireOver (old .object))
+  acquire-in p =
+      acquire-as old (slotAt-pos (s .slots) k p)
+      ∙ ap (λ z. withOverflow (withSlots s z) (s .overflow or acquireOver (old .object))) (slotPut-pos (s .slots) k (withObject old (acquired (old .object) w)) p)

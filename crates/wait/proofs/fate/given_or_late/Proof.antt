@@ -1,0 +1,30 @@
+use mathlib.Core.Path.{_≡_, refl, ap, sym, _∙_}
+use Prim.Native.Nat.{_+_, _-_, _≤_, _<_}
+use native.Mathlib.Omega.{arith}
+use Rattle.laws.specs.Logic.{pick, _or_, pick-yes, pick-no, or-yes, or-no}
+use borrow.Author.Tests.{lt-ltb, le-ltb, lt-leb, le-leb, eq-eqb, ne-eqb, not-true, not-false}
+use borrow.Author.Needs.{needs}
+use Rattle.wait.proofs.fate.given_or_late.Statement.{statement}
+use Rattle.wait.proofs.fate.given_or_late.Tie as tie
+use Rattle.wait.proofs.fate.given_or_late.Reads as reads
+use Rattle.wait.proofs.fate.given_or_late.Lts as lts
+use Rattle.wait.proofs.fate.late_or.Reads as late-or-reads
+
+enum-told : tie.Need-enum-told
+enum-told c = search needs
+
+late-or-requires : tie.Need-late-or-requires
+late-or-requires c κs = search needs
+
+enum-known-found : tie.Need-enum-known-found
+enum-known-found c = search needs
+
+returns : tie.Need-returns
+returns c = search needs
+
+returns-2 : tie.Need-returns-2
+returns-2 c = rw (c .before .found .given .1)
+
+pub given-or-late-spec : {M : Type 1} → statement M
+given-or-late-spec =
+    tie.close (tie.spec enum-told late-or-requires enum-known-found returns returns-2)
