@@ -5,8 +5,8 @@ use mathlib.Core.List.{List, [], _∷_}
 use Prim.Native.Nat.{ℕ}
 use Rattle.sound.specs.Question.{sound?}
 use Rattle.host.specs.Lent.{lent, accepted?}
-use Rattle.history.specs.Step.{Op, opFreshStart, opNextEvent, opCreateThread, opEndThread, step, Entry, trace}
-use Rattle.history.specs.Keeps.{Kept, fresh-keeps, nextEvent-keeps, createThread-keeps, endThread-keeps}
+use Rattle.history.specs.Step.{Op, opFreshStart, opNextEvent, opCreateThread, opSchedule, opEndThread, step, Entry, trace}
+use Rattle.history.specs.Keeps.{Kept, fresh-keeps, nextEvent-keeps, createThread-keeps, schedule-keeps, endThread-keeps}
 
 -- at every entry, with what comes after it
 abbrev pub Always : (Entry → List Entry → Type 0) → List Entry → Type 0
@@ -29,6 +29,9 @@ claim (opNextEvent answer u) b rest =
     record { keeps = k .sound; leaves = λ e. ap (λ l. l .block) (k .same e) }
 claim (opCreateThread bank u answer v entry e stack s arg a priority p processor q) b rest =
     let k = createThread-keeps entry stack arg priority processor e s q (lent b bank [] [] answer) in
+    record { keeps = k .sound; leaves = λ z. ap (λ l. l .block) (k .same z) }
+claim (opSchedule bank u processor p answer v tick h) b rest =
+    let k = schedule-keeps tick h (lent b bank processor [] answer) in
     record { keeps = k .sound; leaves = λ z. ap (λ l. l .block) (k .same z) }
 claim (opEndThread thread h) b rest =
     let k = endThread-keeps thread (lent b [] [] [] []) in

@@ -20,9 +20,11 @@ use Rattle.kernel.proofs.FreshSound.{fresh-sound}
 use Rattle.thread.specs.Threads as thread
 use Rattle.soundness.specs.Creates.{createThread-sound}
 use Rattle.soundness.specs.Ends.{endThread-sound}
+use Rattle.pass.specs.Schedule as pass
+use Rattle.passing.specs.Pass.{schedule-sound}
 use Rattle.host.specs.Lent.{Lent, lent, withAnswer, withBlock, Back, back, accepted?}
-use Rattle.host.specs.Operations.{outOfHandles?, inspect, freshStart, tickBytes, nextEvent, finding, change, rowMade, createThread, endRefusal, endThread}
-use Rattle.host.proofs.Cases.{nothing-full, nothing-over}
+use Rattle.host.specs.Operations.{outOfHandles?, inspect, freshStart, tickBytes, nextEvent, finding, change, rowMade, createThread, passWritten, schedule, endRefusal, endThread}
+use Rattle.host.proofs.Cases.{nothing-full, nothing-over, nothing-over-objects}
 
 -- what holds of an operation on what was lent
 pub record Kept (l : Lent) (r : Back) : Type 0 where
@@ -106,6 +108,17 @@ createThread-keeps entry stack arg priority processor we ws wp l =
     let k : Kernel = decBlock (l .block) in
     let m : Kernel = thread.createThread k entry stack priority processor in
     encoded-sound m (createThread-sound k entry stack priority processor (t-block (l .block) .yes s .state) we ws wp (nothing-full m f) (nothing-over m f)))
+
+-- ---- a pass
+pub schedule-keeps : (tick : ℕ) → tick < 18446744073709551616 → (l : Lent) → Kept l (schedule tick l)
+unfolding schedule
+schedule-keeps tick h l =
+    change-keeps (eqb (length (l .block)) 16384 and (eqb (length (l .bank)) 6656 and (eqb (length (l .processor)) 208 and eqb (length (l .answer)) 4))) (λ k. 0)
+    (λ k. pass.schedule k tick .kernel) (λ k. passWritten l (pass.schedule k tick)) l (λ k n. absurd (n refl))
+    (λ s r f.
+    let k : Kernel = decBlock (l .block) in
+    let m : Kernel = pass.schedule k tick .kernel in
+    encoded-sound m (schedule-sound k tick h (t-block (l .block) .yes s .state) (nothing-over-objects m f)))
 
 -- ---- a thread ends
 end-refusal : (t : ℕ) (k : Kernel) → Refusal (endRefusal t k)

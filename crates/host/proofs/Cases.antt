@@ -2,10 +2,11 @@
 use mathlib.Core.Path.{_≡_, refl, ap, sym}
 use mathlib.Core.Bool.{Bool, true, false}
 use mathlib.Core.List.{List}
-use Prim.Native.Nat.{ℕ, _≤_, _<_}
+use Prim.Native.Nat.{ℕ, _*_, _≤_, _<_}
 use native.Mathlib.Omega.{arith}
 use lib.Dec.{leb}
-use lib.ListN.{length, List·getD-eq-default}
+use lib.ListN.{length, take, drop, length-drop, List·getD-eq-default}
+use lib.Seq.{length-take-le}
 use borrow.Author.Tests.{eq-eqb, ne-eqb, leb-false}
 use Rattle.laws.specs.Logic.{pick, _and_, _or_, or-false}
 use Rattle.codec.specs.Bytes.{same}
@@ -94,8 +95,22 @@ nothing-over k e = go (k .full or (k .objects .full or k .handles .full)) (k .ov
     go false true z = absurd (omega arith)
     go false false z = refl
 
+pub nothing-over-objects : (k : Kernel) → finding k ≡ 0 → k .objects .overflow ≡ false
+unfolding finding _or_
+nothing-over-objects k e = go (k .full or (k .objects .full or k .handles .full)) (k .overflow) (k .objects .overflow) e
+  where
+    go : (f v o : Bool) → _≡_ {A = ℕ} (pick f 7 (pick (v or (o or (k .handles .overflow or outOfHandles? k))) 8 0)) 0 → o ≡ false
+    go true v o z = absurd (omega arith)
+    go false true o z = absurd (omega arith)
+    go false false true z = absurd (omega arith)
+    go false false false z = refl
+
 -- a thread that fits has a place
 pub made-place : (k : Kernel) (entry stack priority processor : ℕ) → finding (createThread k entry stack priority processor) ≡ 0 → endedThread k < 32
 unfolding createThread
 made-place k entry stack priority processor e =
     leb-false 32 (endedThread k) (or-false (k .full) (leb 32 (endedThread k)) (nothing-full (createThread k entry stack priority processor) e) .1)
+
+-- a row of the bank is whole
+pub row-length : (s : List ℕ) (t : ℕ) → length s ≡ 6656 → t < 32 → length (take 208 (drop (t * 208) s)) ≡ 208
+row-length s t e h = length-take-le 208 (drop (t * 208) s) (simp length-drop (omega arith))

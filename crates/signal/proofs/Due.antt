@@ -1,11 +1,11 @@
 -- When a timer is due again: the tick, plus what is left of the period under way. Assumes nothing.
-use mathlib.Core.Path.{_≡_, refl, ap, _∙_}
-use mathlib.Core.Logic.{_⊎_, _≢_, inl, inr}
+use mathlib.Core.Path.{_≡_, ap, _∙_}
+use mathlib.Core.Logic.{_≢_, inl, inr}
 use Prim.Native.Nat.{ℕ, _+_, _-_, _*_, _/_, _%_, _≤_, _<_}
 use native.Mathlib.Nat.{div-add-mod, mod-lt, mul-add, mul-one}
 use native.Mathlib.Omega.{arith}
 use borrow.Author.Tests.{lt-ltb, le-ltb}
-use Rattle.laws.specs.Logic.{pick, lt-cases}
+use Rattle.laws.specs.Logic.{lt-cases}
 use Rattle.thread.specs.Threads.{least}
 use Rattle.pass.specs.Timers.{maxTick, saturatingAdd, saturatingMul}
 

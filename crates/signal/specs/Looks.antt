@@ -1,6 +1,6 @@
 -- `is_signaled` as it is computed: whether the thread that an object names is Dead is looked up first.
 use mathlib.Core.Path.{_≡_, refl}
-use mathlib.Core.Bool.{Bool, true, false}
+use mathlib.Core.Bool.{Bool, true}
 use mathlib.Core.List.{List}
 use Prim.Native.Nat.{ℕ}
 use Rattle.types.specs.declared.thread.Thread as th

@@ -7,8 +7,8 @@ use types::object::ObjectStore;
 use types::object::Slot;
 use types::thread::Thread;
 ghost use mathlib.Core.Path.{_≡_};
-ghost use Prim.Native.Nat.{_+_, _-_, _<_, _≤_};
-ghost use lib.ListN.{length, replicate};
+ghost use Prim.Native.Nat.{_≤_};
+ghost use lib.ListN.{length};
 ghost use Rattle.laws.specs.All.{All};
 ghost use Rattle.laws.specs.Tally.{tally, tallyAll};
 ghost use Rattle.object.specs.Slots.{withSlots};
@@ -91,6 +91,7 @@ fn lose_pulses(s: ObjectStore, m: [u32; 129]) -> ObjectStore
     q
 }
 
+// The marks make it linear: who waits is not looked up for each slot.
 pub fn catch_up_timers(s: ObjectStore, ts: [Thread; 32], tick: u64) -> ObjectStore
     ensures { λ r. ⌜ r ≡ def.catchUpTimers s ts tick ⌝ }
 {

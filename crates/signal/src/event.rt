@@ -11,8 +11,6 @@ use types::thread::Thread;
 use types::thread::ThreadStatus;
 use units::ObjectId;
 ghost use mathlib.Core.Path.{_≡_};
-ghost use Prim.Native.Nat.{_+_, _-_, _<_, _≤_};
-ghost use lib.Dec.{eqb};
 ghost use Rattle.laws.specs.Logic.{_and_};
 ghost use Rattle.sound.specs.View.{ids};
 ghost use Rattle.kernel.specs.NextEvent.{contains};

@@ -6,8 +6,6 @@ use types::sync::Event;
 use types::sync::Timer;
 ghost use mathlib.Core.Path.{_≡_};
 ghost use mathlib.Core.Bool.{false};
-ghost use Prim.Native.Nat.{_+_, _-_, _<_, _≤_};
-ghost use lib.ListN.{length};
 ghost use Rattle.pass.specs.Signal as def;
 
 pub fn quiet_event(e: Event) -> Event
@@ -65,6 +63,7 @@ fn unpulsed_slot(s: Slot) -> Slot
     }
 }
 
+// In place: few slots change.
 pub fn clear_pulses(s: ObjectStore) -> ObjectStore
     ensures { λ r. ⌜ r ≡ def.clearPulses s ⌝ }
 {

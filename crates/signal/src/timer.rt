@@ -1,17 +1,15 @@
-// Timers (`fire_timers`, `catch_up_timers`, `timer_due`).
+// Timers that come due (`fire_timers`, `timer_due`).
 use crate::event;
 use kernel::next_event;
 use types::object::KObject;
 use types::object::ObjectStore;
 use types::object::Slot;
 use types::sync::Timer;
-use types::thread::Thread;
 use types::thread::TickOption;
 use units::Ticks;
 ghost use mathlib.Core.Path.{_≡_};
-ghost use Prim.Native.Nat.{_+_, _-_, _<_, _≤_};
+ghost use Prim.Native.Nat.{_≤_};
 ghost use lib.Dec.{leb};
-ghost use lib.ListN.{length};
 ghost use Rattle.laws.specs.Logic.{_and_, _or_};
 ghost use Rattle.kernel.specs.NextEvent.{dueOf};
 ghost use Rattle.pass.specs.Signal.{isPulse};
@@ -193,6 +191,7 @@ fn slot_due(s: Slot, tick: u64) -> bool
     due_by(at, tick)
 }
 
+// In place: few slots change.
 pub fn fire_timers(s: ObjectStore, tick: u64) -> ObjectStore
     ensures { λ r. ⌜ r ≡ def.fireTimers s tick ⌝ }
 {
