@@ -5,6 +5,7 @@ pub mod Timers
 pub mod Signal
 pub mod Widths
 pub mod Threads
+pub mod Priority
 pub mod Awake
 pub mod Fates
 pub mod Tries
