@@ -1,0 +1,3 @@
+-- What a pass does to waits and timers, and who runs after it.
+pub mod Wait
+pub mod Turn
