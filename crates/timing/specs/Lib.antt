@@ -1,3 +1,6 @@
 -- What a pass does to waits and timers, and who runs after it.
 pub mod Wait
 pub mod Turn
+pub mod Rest
+pub mod Pass
+pub mod Late
