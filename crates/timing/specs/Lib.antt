@@ -4,3 +4,6 @@ pub mod Turn
 pub mod Rest
 pub mod Pass
 pub mod Late
+pub mod Others
+pub mod Lowest
+pub mod Runs
