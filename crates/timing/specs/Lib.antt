@@ -7,3 +7,7 @@ pub mod Late
 pub mod Others
 pub mod Lowest
 pub mod Runs
+pub mod Grid
+pub mod Drift
+pub mod Clock
+pub mod Fires

@@ -1,0 +1,22 @@
+-- How far a repeating timer lies behind the exact time: less than a tick for each whole number of ticks that it is made of.
+use mathlib.Core.Path.{_≡_}
+use Prim.Native.Nat.{ℕ, _+_, _-_, _*_, _/_, _≤_, _<_}
+use native.Mathlib.Omega.{arith}
+use native.Mathlib.Nat.{mul-le-mul-left}
+use Rattle.units.specs.declared.Nanos.{Nanos}
+use Rattle.units.specs.Ticks.{nanosToTicks}
+
+-- 0 ≤ (a + k × b) × 268,111,856 − 10^9 × span < (k + 1) × 10^9, with the difference taken to the other side
+pub record InStep (a b k span : ℕ) : Type 0 where
+  pub behind : 1000000000 * span ≤ (a + k * b) * 268111856
+  pub less : (a + k * b) * 268111856 < 1000000000 * span + (k + 1) * 1000000000
+
+pub in-step : (a b : Nanos) (k t due : ℕ) → due ≡ t + nanosToTicks a .0 + k * nanosToTicks b .0 → InStep (a .0) (b .0) k (due - t)
+in-step a b k t due e =
+    let A : ℕ = a .0 * 268111856 / 1000000000 in
+    let B : ℕ = b .0 * 268111856 / 1000000000 in
+    let lo : B * 1000000000 ≤ b .0 * 268111856 = omega arith in
+    let hi : b .0 * 268111856 ≤ B * 1000000000 + 1000000000 = omega arith in
+    let below = mul-le-mul-left k lo in
+    let above = mul-le-mul-left k hi in
+    record { behind = omega arith; less = omega arith }
