@@ -21,12 +21,22 @@ use Rattle.object.specs.Slots.{withSlots}
 use Rattle.soundness.specs.Slots.{pick-both}
 use Rattle.pass.specs.Signal.{waitedSync, isPulse}
 use Rattle.pass.specs.Timers.{dueBy, firedTimer, firedAt, firedAs, firedSlot, fireTimers, timerDue, lostObject, lostSlot, lostSlots, catchUpTimers}
-use Rattle.timing.specs.Grid.{firedDue}
+use Rattle.timing.specs.Grid.{firedDue, firedDues}
 use Rattle.timing.specs.Clock.{Clock, clockOf, clockAt, clockIn}
 
 -- ---- the clock after timers were fired at a tick
 abbrev pub firedClock : ℕ → Clock → Clock
 firedClock tick c = record { kind = c .kind; due = firedDue (c .interval) tick (c .due); interval = c .interval }
+
+-- at each tick of a list
+unfoldable pub firedClocks : List ℕ → Clock → Clock
+firedClocks [] c = c
+firedClocks (tick ∷ ticks) c = firedClocks ticks (firedClock tick c)
+
+pub clocks-due : (ticks : List ℕ) (c : Clock) → firedClocks ticks c ≡ record { kind = c .kind; due = firedDues (c .interval) ticks (c .due); interval = c .interval }
+unfolding firedClocks firedDues
+clocks-due [] c = refl
+clocks-due (tick ∷ ticks) c = clocks-due ticks (firedClock tick c)
 
 -- ---- every slot at once
 map-at : (g : Slot → Slot) → g noSlot ≡ noSlot → (l : List Slot) (o : ℕ) → slotAt (map g l) o ≡ g (slotAt l o)

@@ -11,3 +11,4 @@ pub mod Grid
 pub mod Drift
 pub mod Clock
 pub mod Fires
+pub mod Open
