@@ -1,5 +1,5 @@
 -- What a case asks, and what the definitions answer.
-use mathlib.Core.Bool.{Bool, true, false}
+use mathlib.Core.Bool.{Bool, false}
 use mathlib.Core.List.{List, [], _∷_, _++_, map}
 use Prim.Native.Nat.{ℕ}
 use lib.ListN.{set}

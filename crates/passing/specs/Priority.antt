@@ -1,6 +1,5 @@
 -- Another priority leaves a sound state, of an ended thread too. A place that is not in use must stay all zero, so the place is one in use.
-use mathlib.Core.Path.{_≡_, refl, _∙_}
-use mathlib.Core.List.{List}
+use mathlib.Core.Path.{refl, _∙_}
 use Prim.Native.Nat.{ℕ, _<_}
 use native.Mathlib.Omega.{arith}
 use lib.ListN.{length, set, length-set}
@@ -21,7 +20,7 @@ use Rattle.soundness.specs.Threads.{threads-set}
 use Rattle.soundness.specs.Whole.{Parts, sound-parts, parts-sound}
 use Rattle.soundness.specs.Creates.{StoreOk, parts-store, store-more}
 use Rattle.soundness.specs.Ends.{fits-at, live-same}
-use Rattle.passing.specs.Widths.{Own, Widths, widths-of, fits-of}
+use Rattle.passing.specs.Widths.{Widths, widths-of, fits-of}
 
 module _ (k : Kernel) (t : ℕ) (l : t < k .«thread_count») (p : ℕ) (h : Parts k) where
   abbrev old : Thread

@@ -1,8 +1,10 @@
 -- When a timer is due and how often, object by object, and what leaves that alone.
-use mathlib.Core.Path.{_≡_, refl, _∙_}
+use mathlib.Core.Path.{_≡_, refl, ap, _∙_}
 use mathlib.Core.Bool.{Bool, not}
+use mathlib.Core.Logic.{_≢_}
 use mathlib.Core.List.{List, [], _∷_}
-use Prim.Native.Nat.{ℕ}
+use Prim.Native.Nat.{ℕ, _≤_, _<_}
+use lib.ListN.{length}
 use Rattle.laws.specs.Logic.{_and_, _or_}
 use Rattle.types.specs.declared.thread.TickOption.{TickOption}
 use Rattle.types.specs.declared.thread.Thread as th
@@ -15,7 +17,7 @@ use Rattle.sound.specs.View.{slotAt, objectAt}
 use Rattle.kernel.specs.NextEvent.{dueOf}
 use Rattle.object.specs.Slots.{withObject, content}
 use Rattle.thread.specs.Threads.{disowned, disown}
-use Rattle.soundness.specs.Slots.{pick-both, slot-f}
+use Rattle.soundness.specs.Slots.{pick-both, slot-f, slot-other, slot-same}
 use Rattle.soundness.specs.Objects.{slotAt-map}
 use Rattle.pass.specs.Signal.{acquired, acquire, acquires, quieted, unpulsedSlot, clearPulses, waitedSync, isPulse, signaledEvent, signaledSlot, signalEvent, clearedEvent, clearEvent}
 
@@ -49,6 +51,15 @@ clockIn s = clockOf (s .object)
 pub content-clock : (s : ObjectStore) (r : ℕ) (x : KObject) → clockOf x ≡ clockAt s r → (o : ℕ) → clockAt (content s r x) o ≡ clockAt s o
 unfolding content
 content-clock s r x e o = slot-f clockIn (s .slots) r (withObject (slotAt (s .slots) r) x) o e
+
+-- what an object holds anew is its own clock, and no other's
+pub content-other : (s : ObjectStore) (r : ℕ) (x : KObject) (o : ℕ) → o ≢ r → clockAt (content s r x) o ≡ clockAt s o
+unfolding content
+content-other s r x o n = ap clockIn (slot-other (s .slots) r (withObject (slotAt (s .slots) r) x) o n)
+
+pub content-own : (s : ObjectStore) (o : ℕ) (x : KObject) → 0 < o → o ≤ length (s .slots) → clockAt (content s o x) o ≡ clockOf x
+unfolding content
+content-own s o x z l = ap clockIn (slot-same (s .slots) o (withObject (slotAt (s .slots) o) x) z l)
 
 acquired-clock : (x : KObject) (w : ℕ) → clockOf (acquired x w) ≡ clockOf x
 acquired-clock (Free n) w = refl

@@ -1,10 +1,12 @@
 -- How far a repeating timer lies behind the exact time: less than a tick for each whole number of ticks that it is made of.
-use mathlib.Core.Path.{_≡_}
+use mathlib.Core.Path.{_≡_, refl}
+use mathlib.Core.List.{List}
 use Prim.Native.Nat.{ℕ, _+_, _-_, _*_, _/_, _≤_, _<_}
 use native.Mathlib.Omega.{arith}
 use native.Mathlib.Nat.{mul-le-mul-left}
 use Rattle.units.specs.declared.Nanos.{Nanos}
 use Rattle.units.specs.Ticks.{nanosToTicks}
+use Rattle.timing.specs.Grid.{firedDues, cutOff, onGrid, Passes, Least, Fit, grid}
 
 -- 0 ≤ (a + k × b) × 268,111,856 − 10^9 × span < (k + 1) × 10^9, with the difference taken to the other side
 pub record InStep (a b k span : ℕ) : Type 0 where
@@ -20,3 +22,13 @@ in-step a b k t due e =
     let below = mul-le-mul-left k lo in
     let above = mul-le-mul-left k hi in
     record { behind = omega arith; less = omega arith }
+
+-- ---- a timer set at t with a and b nanoseconds, then fired at any ticks: on its grid, and in step while it fits 64 bits
+pub set-grid : (a b : Nanos) (t : ℕ) (ticks : List ℕ) → 0 < nanosToTicks b .0 → Fit ticks
+    → (k : ℕ)
+    × Least (Passes (t + nanosToTicks a .0) (nanosToTicks b .0) ticks) k
+    × (firedDues (nanosToTicks b .0) ticks (cutOff (t + nanosToTicks a .0)) ≡ onGrid (t + nanosToTicks a .0) (nanosToTicks b .0) k)
+    × InStep (a .0) (b .0) k (t + nanosToTicks a .0 + k * nanosToTicks b .0 - t)
+set-grid a b t ticks pos f =
+    let g = grid (t + nanosToTicks a .0) (nanosToTicks b .0) pos ticks f in
+    (g .0, g .1, g .2, in-step a b (g .0) t (t + nanosToTicks a .0 + g .0 * nanosToTicks b .0) refl)

@@ -3,7 +3,7 @@ use mathlib.Core.Path.{_≡_, refl, ap, sym, subst, _∙_}
 use mathlib.Core.Bool.{Bool, true, false}
 use mathlib.Core.List.{List, [], _∷_}
 use mathlib.Core.Logic.{inl, inr}
-use Prim.Native.Nat.{ℕ, zero, suc, _+_, _-_, _*_, _/_, _≤_, _<_, min}
+use Prim.Native.Nat.{ℕ, _+_, _-_, _*_, _/_, _≤_, _<_, min}
 use native.Mathlib.Omega.{arith}
 use native.Mathlib.Nat.{div-mul-le-self, lt-div-mul-add, lt-of-mul-lt-mul-right, mul-le-mul-right}
 use lib.Dec.{leb, ltb}
@@ -98,8 +98,8 @@ module _ (x B : ℕ) (pos : 0 < B) (P : ℕ → Type 0) (mono : (k j : ℕ) → 
       elim (lt-cases maxTick (x + k * B)) [
         | inl p ↦ last p
         | inr p ↦
-          let d : least (x + k * B) maxTick ≡ x + k * B = omega (arith, least-min (x + k * B) maxTick) in
-          subst (λ (a : ℕ). Next (dueAgain a B tick)) (sym d) (go-on (omega (arith, leb-true (least (x + k * B) maxTick) tick e)))
+            let d : least (x + k * B) maxTick ≡ x + k * B = omega (arith, least-min (x + k * B) maxTick) in
+            subst (λ (a : ℕ). Next (dueAgain a B tick)) (sym d) (go-on (omega (arith, leb-true (least (x + k * B) maxTick) tick e)))
       ]
 
   fire-step : Next (firedDue B tick (onGrid x B k))

@@ -1,35 +1,26 @@
 -- When a pass ends a wait by time: not before its tick, at the latest at its tick, and only if what it waits for is not there.
-use mathlib.Core.Path.{_≡_, refl, ap, sym, subst, _∙_}
+use mathlib.Core.Path.{_≡_, refl, ap, sym, _∙_}
 use mathlib.Core.Bool.{Bool, true, false}
-use mathlib.Core.Logic.{inl, inr}
 use Prim.Native.Nat.{ℕ, _≤_, _<_}
-use native.Mathlib.Omega.{arith}
-use lib.Dec.{leb}
 use borrow.Author.Tests.{le-leb, lt-leb, leb-true}
-use Rattle.laws.specs.Logic.{pick, false-true, lt-cases}
+use Rattle.laws.specs.Logic.{pick, false-true}
 use Rattle.units.specs.declared.Ticks.{Ticks}
 use Rattle.types.specs.declared.thread.TickOption.{TickOption}
-use Rattle.types.specs.declared.thread.TickOption.the-variants.{NoTick, SomeTick}
+use Rattle.types.specs.declared.thread.TickOption.the-variants.{SomeTick}
 use Rattle.types.specs.declared.thread.ThreadStatus.{ThreadStatus}
 use Rattle.types.specs.declared.thread.ThreadStatus.the-variants.{Dead, Running, Ready, Sleeping, WaitSync, WaitArbiter, Dormant}
 use Rattle.types.specs.declared.thread.Thread.{Thread}
-use Rattle.types.specs.declared.object.ObjectStore.{ObjectStore}
 use Rattle.types.specs.declared.kernel.Kernel.{Kernel}
-use Rattle.types.specs.Thread.{isBlocked, isDead}
+use Rattle.types.specs.Thread.{isBlocked}
 use Rattle.sound.specs.View.{threadAt}
-use Rattle.sound.specs.Objects.{Live}
 use Rattle.pass.specs.declared.IndexOption.{IndexOption}
 use Rattle.pass.specs.declared.IndexOption.the-variants.{NoIndex, SomeIndex}
 use Rattle.pass.specs.declared.Fate.{Fate}
 use Rattle.pass.specs.declared.Fate.the-variants.{Stays, Given, TimedOut, Slept}
 use Rattle.pass.specs.Timers.{dueBy}
 use Rattle.pass.specs.Waits.{satisfiedAt, waitedObjects, fateOf, fateAs, fate}
-use Rattle.pass.specs.Pick.{isRunnable}
-use Rattle.pass.specs.Schedule.{tried}
-use Rattle.passing.specs.Threads.{runs-live}
-use Rattle.passing.specs.Picks.{canRun}
 use Rattle.timing.specs.Wait.{Blocked}
-use Rattle.timing.specs.Turn.{stays?, tries-other, turn, fateAt, turn-own, tried-stays}
+use Rattle.timing.specs.Turn.{stays?, turn, fateAt, turn-own}
 
 -- ---- how a wait ends
 -- with what the thread waited for
@@ -58,6 +49,12 @@ time-ends Stays e = sym e
 time-ends (Given i) e = refl
 time-ends TimedOut e = refl
 time-ends Slept e = refl
+
+pub stays-given : (f : Fate) → stays? f ≡ true → given? f ≡ false
+stays-given Stays e = refl
+stays-given (Given i) e = sym e
+stays-given TimedOut e = refl
+stays-given Slept e = refl
 
 pub time-given : (f : Fate) → byTime? f ≡ true → given? f ≡ false
 time-given Stays e = refl
@@ -164,27 +161,3 @@ module _ (k : Kernel) (tick w : ℕ) where
   satisfied-given i q f =
       let late : Bool = dueBy (threadAt (k .threads) w .«wakeup_at») tick in
       fate-is ∙ ap (λ (s : ThreadStatus). fateAs s foundAt late) q ∙ ap (λ (x : IndexOption). fateOf x late) f
-
--- ---- a Dead thread stays, so who can run after the tries was not Dead
-dead-stays : (s : ThreadStatus) (x : IndexOption) (late : Bool) → isDead s ≡ true → stays? (fateAs s x late) ≡ true
-dead-stays Dead x late e = refl
-dead-stays Running x late e = false-true e
-dead-stays Ready x late e = false-true e
-dead-stays Sleeping x late e = false-true e
-dead-stays WaitSync x late e = false-true e
-dead-stays WaitArbiter x late e = false-true e
-dead-stays Dormant x late e = false-true e
-
-tried-dead : (k : Kernel) (tick w : ℕ) → isDead (threadAt (k .threads) w .status) ≡ true → threadAt (tried k tick .threads) w ≡ threadAt (k .threads) w
-tried-dead k tick w e =
-    elim (lt-cases w 32) [
-      | inl l ↦ tried-stays k tick w l (ap stays? (fate-is k tick w) ∙ dead-stays (threadAt (k .threads) w .status) (foundAt k tick w) (dueBy (threadAt (k .threads) w .«wakeup_at») tick) e)
-      | inr l ↦ tries-other tick 32 0 _ w (λ a b. omega arith)
-    ]
-
-pub tried-live : (k : Kernel) (tick w : ℕ) → canRun (tried k tick .threads) w ≡ true → Live (k .threads) w
-tried-live k tick w h = go (isDead (threadAt (k .threads) w .status)) refl
-  where
-    go : (q : Bool) → isDead (threadAt (k .threads) w .status) ≡ q → q ≡ false
-    go true e = sym e ∙ runs-live (threadAt (k .threads) w .status) (ap (λ (t : Thread). isRunnable (t .status)) (sym (tried-dead k tick w e)) ∙ h)
-    go false e = refl

@@ -1,13 +1,13 @@
 -- The only runnable thread of the least priority number is the first pick, whoever is current.
-use mathlib.Core.Path.{_≡_, refl, ap, sym, subst, _∙_}
+use mathlib.Core.Path.{_≡_, refl, ap, sym, _∙_}
 use mathlib.Core.Bool.{Bool, true, false}
 use mathlib.Core.List.{List, [], _∷_}
 use mathlib.Core.Logic.{_≢_, inl, inr}
 use Prim.Native.Nat.{ℕ, zero, suc, _+_, _≤_, _<_}
 use native.Mathlib.Omega.{arith}
 use lib.Dec.{eqb, leb, ltb}
-use borrow.Author.Tests.{eqb-true, eq-eqb, leb-true, lt-leb, ltb-true, ltb-false}
-use Rattle.laws.specs.Logic.{pick, _and_, and-true, true-and, false-true, pick-no}
+use borrow.Author.Tests.{eqb-true, eq-eqb, leb-true, lt-leb, ltb-false}
+use Rattle.laws.specs.Logic.{pick, and-true, true-and, false-true, pick-no}
 use Rattle.laws.specs.Count.{ind-cases}
 use Rattle.types.specs.declared.thread.ThreadOption.{ThreadOption}
 use Rattle.types.specs.declared.thread.ThreadOption.the-variants.{NoThread, SomeThread}
@@ -15,7 +15,7 @@ use Rattle.types.specs.declared.thread.Thread.{Thread}
 use Rattle.sound.specs.View.{threadAt}
 use Rattle.thread.specs.Threads.{least}
 use Rattle.thread.specs.Marks.{least-le}
-use Rattle.pass.specs.Pick.{isRunnable, isRunning, better, leastPriority, best, runsAt, firstFrom, orElse, startAfter, cyclic, keepsCore, pickNext}
+use Rattle.pass.specs.Pick.{isRunnable, better, leastPriority, best, runsAt, firstFrom, orElse, startAfter, cyclic, keepsCore, pickNext}
 use Rattle.passing.specs.Picks.{Meets, meets-first, canRun, running-runs}
 
 -- ---- the thread w can run, and its priority number is below that of every other that can

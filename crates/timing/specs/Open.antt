@@ -1,23 +1,26 @@
 -- A timer that is still there after a change has the clock that it had, fired in a pass: what frees a slot takes its clock, and nothing puts one there.
-use mathlib.Core.Path.{_≡_, refl, ap, sym, subst, _∙_}
+use mathlib.Core.Path.{_≡_, refl, ap, subst, _∙_}
 use mathlib.Core.Bool.{Bool, true, false}
 use mathlib.Core.Logic.{inl, inr}
 use mathlib.Core.List.{List, [], _∷_}
 use Prim.Native.Nat.{ℕ, zero, suc, _<_}
 use native.Mathlib.Omega.{arith}
 use lib.Dec.{eqb, leb, ltb}
-use Rattle.laws.specs.Logic.{pick}
+use Rattle.laws.specs.Logic.{lt-cases}
 use Rattle.types.specs.declared.object.KObject.{KObject}
 use Rattle.types.specs.declared.object.KObject.the-variants.{Free, Thread, Event, Mutex, Semaphore, Timer, AddressArbiter, Process, ResourceLimit}
 use Rattle.types.specs.declared.object.Slot.{Slot}
 use Rattle.types.specs.declared.object.ObjectStore.{ObjectStore}
 use Rattle.types.specs.declared.kernel.Kernel.{Kernel}
-use Rattle.sound.specs.View.{slotAt, objectAt, threadAt}
+use Rattle.types.specs.Object.{kindNumber}
+use Rattle.sound.specs.View.{waiterThreads, waiterAddresses, slotAt, objectAt, threadAt}
+use Rattle.sound.specs.Records.{chainOf, has?}
 use Rattle.sound.specs.Objects.{keptAt}
-use Rattle.object.specs.Store.{isFree, addRef, addRefs, release-if, release, releases}
-use Rattle.object.specs.Waiters.{withHead, retain, ofOthers, dropThread}
+use Rattle.object.specs.Store.{isFree, insert, addRef, addRefs, release-if, release, releases}
+use Rattle.object.specs.Waiters.{withHead, retain, ofOthers, dropThread, isArbiter, pushed, push}
 use Rattle.thread.specs.Threads.{letGo, forgetThread, endedThread, createThread, endWait, disown, endThread}
 use Rattle.soundness.specs.Slots.{pick-both, slot-cases, slot-f}
+use Rattle.soundness.specs.Objects.{ObOk, free-kind}
 use Rattle.pass.specs.declared.Fate.{Fate}
 use Rattle.pass.specs.declared.Fate.the-variants.{Stays, Given, TimedOut, Slept}
 use Rattle.pass.specs.declared.Waits.{Waits}
@@ -112,10 +115,21 @@ head-clock (AddressArbiter a) n = refl
 head-clock Process n = refl
 head-clock ResourceLimit n = refl
 
+pub retain-clock : (keep : ℕ → Bool) (s : ObjectStore) (r o : ℕ) → clockAt (retain keep s r) o ≡ clockAt s o
+unfolding retain
+retain-clock keep s r o = slot-f clockIn (s .slots) r _ o (head-clock (objectAt s r) _)
+
+pub push-clock : (s : ObjectStore) (r t a o : ℕ) → clockAt (push s r t a) o ≡ clockAt s o
+unfolding push
+push-clock s r t a o =
+    pick-both (λ (y : ObjectStore). clockAt y o ≡ clockAt s o) (isArbiter (objectAt s r)) _ s
+    (pick-both (λ (y : ObjectStore). clockAt y o ≡ clockAt s o) (has? (waiterThreads (s .waiters)) (waiterAddresses (s .waiters)) t a (chainOf s r)) s (pushed s r t a) refl
+    (slot-f clockIn (s .slots) r _ o (head-clock (objectAt s r) _))) refl
+
 drop-clock : (n r t : ℕ) (s : ObjectStore) (o : ℕ) → clockAt (dropThread n r t s) o ≡ clockAt s o
-unfolding dropThread retain
+unfolding dropThread
 drop-clock zero r t s o = refl
-drop-clock (suc n) r t s o = drop-clock n (suc r) t (retain (ofOthers s t) s r) o ∙ slot-f clockIn (s .slots) r _ o (head-clock (objectAt s r) _)
+drop-clock (suc n) r t s o = drop-clock n (suc r) t (retain (ofOthers s t) s r) o ∙ retain-clock (ofOthers s t) s r o
 
 pub forget-open : (s : ObjectStore) (t o : ℕ) → Open s (forgetThread s t) o
 unfolding forgetThread
@@ -133,3 +147,17 @@ unfolding endThread endWait
 end-open k t o =
     let r : List ℕ = waitedObjects (threadAt (k .threads) t) in
     open-then (k .objects) (releases (k .objects) r) (disown (releases (k .objects) r) t) o (releases-open r (k .objects) o) (λ h. disown-clock (releases (k .objects) r) t o)
+
+-- ---- the first free slot is free, and there is no object 0
+first-free : (s : ObjectStore) (f : ℕ → ℕ) → ObOk s f → kindNumber (objectAt s (s .free)) ≡ 0
+unfolding slotAt
+first-free s f h = elim (lt-cases 0 (s .free)) [ inl l ↦ free-kind s f h l | inr l ↦ let e : s .free ≡ 0 = omega arith in ap (λ (r : ℕ). kindNumber (objectAt s r)) e ]
+
+-- ---- a new object takes a free slot: what is in use before it has the clock that it had
+pub insert-clock : (s : ObjectStore) (v : KObject) (f : ℕ → ℕ) → ObOk s f → (o : ℕ) → 0 < clockAt s o .kind → clockAt (insert s v) o ≡ clockAt s o
+unfolding insert
+insert-clock s v f h o p =
+    elim (slot-cases (s .slots) (s .free) (record { object = v; refcount = 1; pulsed = slotAt (s .slots) (s .free) .pulsed }) o) [
+      | inl e ↦ absurd (let z : clockAt s o .kind ≡ 0 = ap (λ (r : ℕ). clockAt s r .kind) (e .0) ∙ first-free s f h in omega arith)
+      | inr e ↦ ap clockIn e
+    ]

@@ -1,6 +1,6 @@
 -- What the changes outside a pass do to the wait of a thread: only its own end and its own parking touch it.
-use mathlib.Core.Path.{_≡_, refl, ap, sym, subst, _∙_}
-use mathlib.Core.Bool.{Bool, true, false}
+use mathlib.Core.Path.{_≡_, refl, ap, sym, _∙_}
+use mathlib.Core.Bool.{Bool}
 use mathlib.Core.List.{List}
 use mathlib.Core.Logic.{_≢_}
 use Prim.Native.Nat.{ℕ, _<_}
@@ -16,7 +16,7 @@ use Rattle.types.specs.declared.thread.Thread.{Thread}
 use Rattle.types.specs.declared.kernel.Kernel.{Kernel}
 use Rattle.types.specs.Thread.{isDead}
 use Rattle.sound.specs.View.{threadAt}
-use Rattle.thread.specs.Thread.{clearWait, withPriority}
+use Rattle.thread.specs.Thread.{clearWait}
 use Rattle.thread.specs.Threads.{endedThread, createThread, setPriority, endWait, ended, endThread}
 use Rattle.soundness.specs.Threads.{thread-same, thread-other}
 use Rattle.soundness.specs.Whole.{Parts}

@@ -1,5 +1,5 @@
 -- What a pass does to a blocked thread: its fate at its turn says whether its wait goes on or it can run.
-use mathlib.Core.Path.{_≡_, refl, ap, _∙_}
+use mathlib.Core.Path.{_≡_, ap, _∙_}
 use mathlib.Core.Bool.{true, false}
 use Prim.Native.Nat.{ℕ, _<_}
 use Rattle.types.specs.declared.thread.Thread.{Thread}

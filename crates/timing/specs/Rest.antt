@@ -4,7 +4,6 @@ use mathlib.Core.Bool.{Bool, true, false}
 use mathlib.Core.List.{List}
 use Prim.Native.Nat.{ℕ}
 use lib.Dec.{eqb}
-use lib.ListN.{set}
 use Rattle.laws.specs.Logic.{pick, false-true}
 use Rattle.types.specs.declared.thread.ThreadStatus.{ThreadStatus}
 use Rattle.types.specs.declared.thread.ThreadStatus.the-variants.{Dead, Running, Ready, Sleeping, WaitSync, WaitArbiter, Dormant}
@@ -19,10 +18,10 @@ use Rattle.soundness.specs.Slots.{pick-both}
 use Rattle.pass.specs.declared.Waits.{Waits}
 use Rattle.pass.specs.declared.Passed.{Passed}
 use Rattle.pass.specs.Pick.{isRunnable, isRunning, pickNext}
-use Rattle.pass.specs.Schedule.{withRun, markWaited, begun, beginRun, starving, flipped, chosen, leaves, leaveCore, takeCore, scheduled, switchAs, choose}
-use Rattle.passing.specs.Picks.{canRun, Runs, pickNext-runs, chosen-runs, thread-f, runs-same}
+use Rattle.pass.specs.Schedule.{withRun, markWaited, begun, beginRun, starving, flipped, chosen, leaves, leaveCore, takeCore, switchAs, choose}
+use Rattle.passing.specs.Picks.{canRun, Runs, pickNext-runs, chosen-runs, thread-f}
 use Rattle.passing.specs.Switch.{leave-runs, begin-runs}
-use Rattle.timing.specs.Wait.{Wait, waitOf}
+use Rattle.timing.specs.Wait.{waitOf}
 
 -- ---- a thread off the core, with no word on when it ran
 abbrev pub offCore : ThreadStatus → ThreadStatus

@@ -1,5 +1,5 @@
 -- Who runs after a pass: the only most urgent thread, unless relief turns on; then it runs at the next pass at which it is so.
-use mathlib.Core.Path.{_≡_, refl, ap, sym, subst, _∙_}
+use mathlib.Core.Path.{_≡_, refl, ap, sym, _∙_}
 use mathlib.Core.Bool.{Bool, true, false, not}
 use mathlib.Core.List.{List}
 use mathlib.Core.Logic.{_⊎_, inl, inr}
@@ -16,16 +16,15 @@ use Rattle.sound.specs.View.{threadAt}
 use Rattle.sound.specs.Objects.{Live}
 use Rattle.soundness.specs.Slots.{pick-both}
 use Rattle.soundness.specs.Whole.{Parts}
-use Rattle.pass.specs.declared.Waits.{Waits}
 use Rattle.pass.specs.declared.Passed.{Passed}
 use Rattle.pass.specs.Pick.{pickNext}
-use Rattle.pass.specs.Schedule.{markWaited, beginRun, starving, flipped, chosen, switchAs, chooseFrom, choose, tried, schedule}
+use Rattle.pass.specs.Schedule.{markWaited, beginRun, starving, flipped, chosen, switchAs, chooseFrom, tried, schedule}
 use Rattle.passing.specs.Threads.{live-place, live-ok}
 use Rattle.timing.specs.Turn.{tried-priority}
 use Rattle.timing.specs.Rest.{rest-runs, rest-priority, mark-rest}
 use Rattle.timing.specs.Lowest.{Lowest, lowest-as, lowest-picked}
 use Rattle.timing.specs.Pass.{pass-runs, pass-priority}
-use Rattle.timing.specs.Late.{tried-live}
+use Rattle.timing.specs.Alive.{tried-live}
 
 -- ---- what a switch leaves
 switch-current : (k : Kernel) (s : ObjectStore) (ts : List Thread) (relief : Bool) (c next : ThreadOption) → switchAs k s ts relief c next .kernel .«current_thread» ≡ next

@@ -2,14 +2,12 @@
 use mathlib.Core.Path.{_≡_, refl, ap, sym, _∙_}
 use mathlib.Core.Bool.{Bool, true, false}
 use mathlib.Core.Logic.{_≢_}
-use mathlib.Core.List.{List}
 use Prim.Native.Nat.{ℕ, zero, suc, _+_, _-_, _≤_, _<_}
 use native.Mathlib.Omega.{arith}
-use lib.ListN.{length, set, length-set}
+use lib.ListN.{length}
 use Rattle.laws.specs.Logic.{false-true}
 use Rattle.types.specs.declared.thread.ThreadStatus.the-variants.{Ready}
 use Rattle.types.specs.declared.thread.Thread.{Thread}
-use Rattle.types.specs.declared.object.ObjectStore.{ObjectStore}
 use Rattle.types.specs.declared.kernel.Kernel.{Kernel}
 use Rattle.sound.specs.View.{threadAt}
 use Rattle.soundness.specs.Threads.{thread-same, thread-other}

@@ -2,9 +2,8 @@
 use mathlib.Core.Path.{_≡_, refl, sym}
 use mathlib.Core.Bool.{Bool, true, false}
 use mathlib.Core.List.{List}
-use mathlib.Core.Logic.{_≢_}
 use Prim.Native.Nat.{ℕ, _<_}
-use lib.ListN.{length, set}
+use lib.ListN.{length}
 use Rattle.laws.specs.Logic.{false-true}
 use Rattle.units.specs.declared.ObjectId.{ObjectId}
 use Rattle.types.specs.declared.thread.TickOption.{TickOption}
@@ -14,7 +13,7 @@ use Rattle.types.specs.declared.thread.ThreadStatus.the-variants.{Dead, Running
 use Rattle.types.specs.declared.thread.Thread.{Thread}
 use Rattle.types.specs.Thread.{isBlocked, isDead}
 use Rattle.sound.specs.View.{threadAt}
-use Rattle.pass.specs.Pick.{isRunnable, isRunning}
+use Rattle.pass.specs.Pick.{isRunnable}
 use Rattle.passing.specs.Signal.{live-in}
 
 pub record Wait : Type 0 where
