@@ -3,7 +3,7 @@ use mathlib.Core.Path.{_≡_, refl, ap, _∙_}
 use mathlib.Core.Bool.{Bool, not}
 use mathlib.Core.Logic.{_≢_}
 use mathlib.Core.List.{List, [], _∷_}
-use Prim.Native.Nat.{ℕ, _≤_, _<_}
+use Prim.Native.Nat.{ℕ, zero, suc, _≤_, _<_}
 use lib.ListN.{length}
 use Rattle.laws.specs.Logic.{_and_, _or_}
 use Rattle.types.specs.declared.thread.TickOption.{TickOption}
@@ -13,9 +13,12 @@ use Rattle.types.specs.declared.object.KObject.the-variants.{Free, Thread, Even
 use Rattle.types.specs.declared.object.Slot.{Slot}
 use Rattle.types.specs.declared.object.ObjectStore.{ObjectStore}
 use Rattle.types.specs.Object.{kindNumber}
-use Rattle.sound.specs.View.{slotAt, objectAt}
+use Rattle.sound.specs.View.{waiterThreads, waiterAddresses, slotAt, objectAt}
+use Rattle.sound.specs.Records.{chainOf, has?}
 use Rattle.kernel.specs.NextEvent.{dueOf}
 use Rattle.object.specs.Slots.{withObject, content}
+use Rattle.object.specs.Store.{isFree, addRef, addRefs}
+use Rattle.object.specs.Waiters.{withHead, retain, ofOthers, dropThread, isArbiter, pushed, push}
 use Rattle.thread.specs.Threads.{disowned, disown}
 use Rattle.soundness.specs.Slots.{pick-both, slot-f, slot-other, slot-same}
 use Rattle.soundness.specs.Objects.{slotAt-map}
@@ -141,3 +144,41 @@ disowned-clock t ResourceLimit = refl
 pub disown-clock : (s : ObjectStore) (t o : ℕ) → clockAt (disown s t) o ≡ clockAt s o
 unfolding disown
 disown-clock s t o = slotAt-map clockIn (λ (x : Slot). withObject x (disowned t (x .object))) (λ x. disowned-clock t (x .object)) (s .slots) o
+
+-- ---- holders
+pub addRef-clock : (s : ObjectStore) (r o : ℕ) → clockAt (addRef s r) o ≡ clockAt s o
+unfolding addRef
+addRef-clock s r o = pick-both (λ (y : ObjectStore). clockAt y o ≡ clockAt s o) (isFree (objectAt s r)) s _ refl (slot-f clockIn (s .slots) r _ o refl)
+
+pub addRefs-clock : (rs : List ℕ) (s : ObjectStore) (o : ℕ) → clockAt (addRefs s rs) o ≡ clockAt s o
+unfolding addRefs
+addRefs-clock [] s o = refl
+addRefs-clock (r ∷ rs) s o = addRefs-clock rs (addRef s r) o ∙ addRef-clock s r o
+
+-- ---- records of an arbiter
+head-clock : (x : KObject) (n : ℕ) → clockOf (withHead x n) ≡ clockOf x
+head-clock (Free m) n = refl
+head-clock (Thread u) n = refl
+head-clock (Event e) n = refl
+head-clock (Mutex m) n = refl
+head-clock (Semaphore s) n = refl
+head-clock (Timer t) n = refl
+head-clock (AddressArbiter a) n = refl
+head-clock Process n = refl
+head-clock ResourceLimit n = refl
+
+pub retain-clock : (keep : ℕ → Bool) (s : ObjectStore) (r o : ℕ) → clockAt (retain keep s r) o ≡ clockAt s o
+unfolding retain
+retain-clock keep s r o = slot-f clockIn (s .slots) r _ o (head-clock (objectAt s r) _)
+
+pub push-clock : (s : ObjectStore) (r t a o : ℕ) → clockAt (push s r t a) o ≡ clockAt s o
+unfolding push
+push-clock s r t a o =
+    pick-both (λ (y : ObjectStore). clockAt y o ≡ clockAt s o) (isArbiter (objectAt s r)) _ s
+    (pick-both (λ (y : ObjectStore). clockAt y o ≡ clockAt s o) (has? (waiterThreads (s .waiters)) (waiterAddresses (s .waiters)) t a (chainOf s r)) s (pushed s r t a) refl
+    (slot-f clockIn (s .slots) r _ o (head-clock (objectAt s r) _))) refl
+
+pub drop-clock : (n r t : ℕ) (s : ObjectStore) (o : ℕ) → clockAt (dropThread n r t s) o ≡ clockAt s o
+unfolding dropThread
+drop-clock zero r t s o = refl
+drop-clock (suc n) r t s o = drop-clock n (suc r) t (retain (ofOthers s t) s r) o ∙ retain-clock (ofOthers s t) s r o

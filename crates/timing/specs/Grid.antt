@@ -53,6 +53,12 @@ least-min a b = go (ltb a b) refl
     go true e = omega (arith, ltb-true a b e)
     go false e = omega (arith, ltb-false a b e)
 
+pub cut-fits : (x : ℕ) → x ≤ maxTick → cutOff x ≡ SomeTick (record { 0 = x })
+cut-fits x h = let e : least x maxTick ≡ x = omega (arith, least-min x maxTick) in ap (λ (n : ℕ). SomeTick (record { 0 = n })) e
+
+pub cut-last : (x : ℕ) → maxTick ≤ x → cutOff x ≡ SomeTick (record { 0 = maxTick })
+cut-last x h = let e : least x maxTick ≡ maxTick = omega (arith, least-min x maxTick) in ap (λ (n : ℕ). SomeTick (record { 0 = n })) e
+
 saturated : (a b : ℕ) → saturatingAdd a (least b maxTick) ≡ least (a + b) maxTick
 saturated a b = omega (arith, least-min (a + least b maxTick) maxTick, least-min b maxTick, least-min (a + b) maxTick)
 
@@ -105,7 +111,7 @@ module _ (x B : ℕ) (pos : 0 < B) (P : ℕ → Type 0) (mono : (k j : ℕ) → 
   fire-step : Next (firedDue B tick (onGrid x B k))
   fire-step = fire-at (leb (least (x + k * B) maxTick) tick) refl
 
--- ---- any number of firings: the point is the least from k on that passes every tick
+-- ---- any number of firings, at ticks in any order: the point is the least that passes every tick
 module _ (x B : ℕ) (pos : 0 < B) where
   grid-from : (P : ℕ → Type 0) → ((k j : ℕ) → k ≤ j → P k → P j) → (k : ℕ) (ticks : List ℕ) → Fit ticks → Least P k
       → (k′ : ℕ) × Least (λ j. Passes x B ticks j × P j) k′ × (firedDues B ticks (onGrid x B k) ≡ onGrid x B k′)

@@ -18,4 +18,4 @@ pub mod Grid
 pub mod Drift
 pub mod Clock
 pub mod Fires
-pub mod Open
+pub mod Keeps
