@@ -22,6 +22,12 @@ static uint32_t create_thread(void)
     return kernel_create_thread(block, sizeof block, bank, sizeof bank, answer, KERNEL_CREATE_THREAD_LEN, 0x100001, 0x1000, 7, 24, 0);
 }
 
+static uint8_t processor[KERNEL_PROCESSOR_LEN];
+static uint32_t schedule(void)
+{
+    return kernel_schedule(block, sizeof block, bank, sizeof bank, processor, sizeof processor, answer, KERNEL_SCHEDULE_LEN, 1u << 30);
+}
+
 static uint32_t ending;
 static uint32_t end_thread(void) { return kernel_end_thread(block, sizeof block, ending); }
 
@@ -50,6 +56,7 @@ static int make_room(void)
 static const struct export { const char *name; uint32_t (*call)(void); int changes; int (*ready)(void); } exports[] = {
     {"kernel_fresh_start", fresh_start, 1, NULL},
     {"kernel_next_event", next_event, 0, NULL},
+    {"kernel_schedule", schedule, 1, NULL},
     {"kernel_end_thread", end_thread, 1, find_live},
     {"kernel_create_thread", create_thread, 1, make_room},
 };

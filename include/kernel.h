@@ -24,6 +24,7 @@ extern "C" {
 /* Lengths of the answer slices. */
 #define KERNEL_NEXT_EVENT_LEN 16u
 #define KERNEL_CREATE_THREAD_LEN 4u
+#define KERNEL_SCHEDULE_LEN 4u
 
 /* Accepted. */
 #define KERNEL_DONE 0u
@@ -51,6 +52,13 @@ uint32_t kernel_next_event(const uint8_t *block, size_t block_len, uint8_t *answ
 uint32_t kernel_create_thread(uint8_t *block, size_t block_len, uint8_t *bank, size_t bank_len, uint8_t *answer,
                               size_t answer_len, uint32_t entry, uint32_t stack_top, uint32_t arg, uint32_t priority,
                               uint32_t processor_id);
+
+/* A pass: timers that are due fire, waits that are satisfied or whose time is over end, and the most urgent thread that
+   can run gets the core. The answer is word 1 if the pass switched, else 0. When it switched, the processor went to the
+   row of the thread that left the core, if one left, and came from the row of the one that got it, if one did; then the
+   host drops any exclusive reservation. */
+uint32_t kernel_schedule(uint8_t *block, size_t block_len, uint8_t *bank, size_t bank_len, uint8_t *processor,
+                         size_t processor_len, uint8_t *answer, size_t answer_len, uint64_t tick);
 
 /* Ends a thread: its wait ends, its mutexes are given back, and it is not current any more. KERNEL_NO_THREAD if
    there is no such thread or it is Dead. */

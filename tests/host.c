@@ -13,5 +13,6 @@ int main(void)
     test_next_event();
     test_create_thread();
     test_end_thread();
+    test_schedule();
     return report();
 }

@@ -6,5 +6,6 @@ void test_fresh_start(void);
 void test_next_event(void);
 void test_create_thread(void);
 void test_end_thread(void);
+void test_schedule(void);
 
 #endif

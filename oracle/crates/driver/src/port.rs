@@ -19,7 +19,7 @@ pub struct Operation {
     pub try_on: fn(&mut Rng) -> Option<Op>,
 }
 
-pub const OPERATIONS: [Operation; 4] = [FRESH_START, NEXT_EVENT, CREATE_THREAD, END_THREAD];
+pub const OPERATIONS: [Operation; 5] = [FRESH_START, NEXT_EVENT, CREATE_THREAD, SCHEDULE, END_THREAD];
 
 pub fn operation(op: &Op) -> Option<&'static Operation> {
     const LIST: &[Operation] = &OPERATIONS;
@@ -42,6 +42,17 @@ extern "C" {
         arg: u32,
         priority: u32,
         processor_id: u32,
+    ) -> u32;
+    fn kernel_schedule(
+        block: *mut u8,
+        block_len: usize,
+        bank: *mut u8,
+        bank_len: usize,
+        processor: *mut u8,
+        processor_len: usize,
+        answer: *mut u8,
+        answer_len: usize,
+        tick: u64,
     ) -> u32;
     fn kernel_end_thread(block: *mut u8, block_len: usize, thread: u32) -> u32;
 }
@@ -109,6 +120,40 @@ const CREATE_THREAD: Operation = Operation {
     try_on: |r| {
         let prio = if r.pct(10) { r.next() as u32 } else { r.below(70) as u32 };
         Some(Op::Create { entry: r.next() as u32, stack: r.next() as u32, arg: r.next() as u32, prio, proc: r.next() as i32 })
+    },
+};
+
+const SCHEDULE: Operation = Operation {
+    name: "pass",
+    answer_len: 4,
+    starts_fresh: false,
+    reads_only: false,
+    is: |op| matches!(op, Op::Pass { .. }),
+    call: |op, lent, answer| {
+        let Op::Pass { tick } = op else { unreachable!() };
+        let (block, bank, processor) = (&mut lent.block, &mut lent.bank, &mut lent.processor);
+        unsafe {
+            kernel_schedule(
+                block.as_mut_ptr(),
+                block.len(),
+                bank.as_mut_ptr(),
+                bank.len(),
+                processor.as_mut_ptr(),
+                processor.len(),
+                answer.as_mut_ptr(),
+                answer.len(),
+                *tick,
+            )
+        }
+    },
+    answer: |out| {
+        let Out::Switched(switched) = out else { unreachable!() };
+        (*switched as u32).to_le_bytes().to_vec()
+    },
+    // ticks of every length, the last ones among them
+    try_on: |r| {
+        let tick = if r.pct(5) { u64::MAX - r.below(3) } else { r.next() >> r.below(64) };
+        Some(Op::Pass { tick })
     },
 };
 
