@@ -6,20 +6,29 @@ ghost use mathlib.Core.List.{[]};
 ghost use Prim.Native.Nat.{_<_};
 ghost use lib.ListN.{length};
 ghost use Rattle.codec.specs.Bytes.{bytes};
-ghost use Rattle.thread.specs.Threads.{endedThread};
+ghost use Rattle.thread.specs.Threads.{endedThread, tlsSlot};
 ghost use Rattle.host.specs.Lent.{lent, back};
 ghost use Rattle.host.specs.Operations.{rowMade, createThread};
 
 // The row and the number, from the state before the thread was made.
-fn put_made(bank: &mut [u8], answer: &mut [u8], k: Kernel, entry: u32, stack_top: u32, arg: u32)
+fn put_made(
+    bank: &mut [u8],
+    answer: &mut [u8],
+    k: Kernel,
+    id: u32,
+    tls: u32,
+    entry: u32,
+    stack_top: u32,
+    arg: u32,
+)
     requires { ⌜ length (now bank) ≡ 6656 ⌝ }
     requires { ⌜ length (now answer) ≡ 4 ⌝ }
-    requires { ⌜ endedThread k < 32 ⌝ }
+    requires { ⌜ id ≡ endedThread k ⌝ }
+    requires { ⌜ tls ≡ tlsSlot k ⌝ }
+    requires { ⌜ id < 32 ⌝ }
     ensures { λ _. ⌜ now (bank .exit) ≡ rowMade (now (bank .entry)) k entry «stack_top» arg ⌝ }
     ensures { λ _. ⌜ now (answer .exit) ≡ bytes 4 (endedThread k) ⌝ }
 {
-    let id = thread::places::ended_thread(k);
-    let tls = thread::places::tls_slot(k);
     let context = thread::thread::new_context(k.status_word, entry, stack_top, arg, tls);
     block::context::put_row(bank, id, context);
     codec::put32(answer, 0, id);
@@ -52,12 +61,14 @@ pub extern "C" fn kernel_create_thread(
     if !questions::block_ok(block, k) {
         return 2;
     }
-    let after = thread::create::create_thread(k, entry, stack_top, priority, processor_id);
+    let id = thread::places::ended_thread(k);
+    let tls = thread::places::tls_slot(k);
+    let after = thread::create::create_thread(k, id, tls, entry, stack_top, priority, processor_id);
     let found = questions::first_finding(after);
     if found != 0 {
         return found;
     }
     block::encode(block, after);
-    put_made(bank, answer, k, entry, stack_top, arg);
+    put_made(bank, answer, k, id, tls, entry, stack_top, arg);
     0
 }

@@ -17,7 +17,7 @@ pub fn block_ok(b: &[u8], k: Kernel) -> bool
 {
     let mut again = [0u8; 16384];
     block::encode(&mut again, k);
-    if !codec::same_words(b, &again, 2048) {
+    if !codec::same_words(b, &again, 4096) {
         return false;
     }
     question::state_ok(k)

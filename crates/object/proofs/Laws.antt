@@ -160,10 +160,10 @@ unfolding waiterAt at
 at-waiters f l zero e = sym e
 at-waiters f l (suc i) e = ap (λ d. getD (map f l) i d) (sym e) ∙ List·getD-map f l i noWaiter
 
-at-next : (l : List Waiter) (r : ℕ) → at (waiterNexts l) r ≡ waiterAt l r .next
+pub at-next : (l : List Waiter) (r : ℕ) → at (waiterNexts l) r ≡ waiterAt l r .next
 at-next l r = at-waiters (λ (w : Waiter). w .next) l r refl
 
-at-thread : (l : List Waiter) (r : ℕ) → at (waiterThreads l) r ≡ waiterAt l r .thread
+pub at-thread : (l : List Waiter) (r : ℕ) → at (waiterThreads l) r ≡ waiterAt l r .thread
 at-thread l r = at-waiters (λ (w : Waiter). w .thread) l r refl
 
 at-address : (l : List Waiter) (r : ℕ) → at (waiterAddresses l) r ≡ waiterAt l r .address

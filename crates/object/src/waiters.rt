@@ -14,11 +14,13 @@ ghost use Prim.Native.Nat.{_+_, _-_, _<_, _≤_};
 ghost use lib.Dec.{eqb};
 ghost use lib.ListN.{length, getD};
 ghost use Rattle.laws.specs.Logic.{pick, _or_};
+ghost use Rattle.laws.specs.Count as cells;
 ghost use Rattle.laws.specs.Walk.{walk};
 ghost use Rattle.sound.specs.View.{waiterNexts, waiterThreads, waiterAddresses};
 ghost use Rattle.sound.specs.Records as chains;
 ghost use Rattle.object.specs.Slots.{withObject};
 ghost use Rattle.object.specs.Waiters as def;
+ghost use Rattle.object.specs.Cells.{joined, linksOf, unlinkThread};
 
 // The records, the first free one, and the first that a chain keeps.
 pub struct Links {
@@ -135,27 +137,111 @@ pub fn unlink(ws: [Waiter; 64], gone: &[u32], past: u32, at: u32, left: u32, fre
     link(unmarked(gone, past, at), at, u)
 }
 
-// The chain from at without the records of thread t, which are free again.
-fn unlink_thread(ws: [Waiter; 64], t: u32, at: u32, left: u32, free: u32) -> Links
-    ensures { λ r. ⌜ r ≡ def.unlink (λ x. not (eqb (def.waiterAt ws x .thread) t)) ws free (walk (waiterNexts ws) left at) ⌝ }
+// The first free record, and the first that a chain keeps.
+pub struct Ends {
+    pub free: u32,
+    pub head: u32,
+}
+
+// What stands in the cell numbered x, from 1; 0 where there is no such cell.
+fn cell(l: &[u32; 64], x: u32) -> u32
+    requires { ⌜ length (now l) ≡ 64 ⌝ }
+    ensures { λ r. ⌜ r ≡ cells.at (now (l .entry)) x ⌝ }
+{
+    if x == 0 {
+        return 0;
+    }
+    if 64 < x {
+        return 0;
+    }
+    let i = (x - 1) as usize;
+    l[i]
+}
+
+fn put_cell(l: &mut [u32; 64], x: u32, v: u32)
+    requires { ⌜ length (now l) ≡ 64 ⌝ }
+    ensures { λ _. ⌜ now (l .exit) ≡ cells.put (now (l .entry)) x v ⌝ }
+{
+    if x == 0 {
+        return;
+    }
+    if 64 < x {
+        return;
+    }
+    let i = (x - 1) as usize;
+    l[i] = v;
+}
+
+// The chain from at without the records of thread t, which are free again. The records are lent as columns, so that
+// no step of the walk copies the table.
+fn unlink_thread(
+    threads: &mut [u32; 64],
+    addresses: &mut [u32; 64],
+    nexts: &mut [u32; 64],
+    t: u32,
+    at: u32,
+    left: u32,
+    free: u32,
+) -> Ends
+    requires { ⌜ length (now threads) ≡ 64 ⌝ }
+    requires { ⌜ length (now addresses) ≡ 64 ⌝ }
+    requires { ⌜ length (now nexts) ≡ 64 ⌝ }
+    ensures { λ r. ⌜ linksOf (now (threads .exit)) (now (addresses .exit)) (now (nexts .exit)) r ≡ unlinkThread (joined (now (threads .entry)) (now (addresses .entry)) (now (nexts .entry))) t at left free ⌝ }
+    ensures { λ _. ⌜ length (now (threads .exit)) ≡ 64 ⌝ }
+    ensures { λ _. ⌜ length (now (addresses .exit)) ≡ 64 ⌝ }
+    ensures { λ _. ⌜ length (now (nexts .exit)) ≡ 64 ⌝ }
 {
     if at == 0 {
-        return Links {
-            waiters: ws,
+        return Ends {
             free: free,
             head: 0,
         };
     }
     if left == 0 {
-        return Links {
-            waiters: ws,
+        return Ends {
             free: free,
             head: 0,
         };
     }
-    let w = waiter_at(ws, at);
-    let u = unlink_thread(ws, t, w.next, left - 1, free);
-    link(w.thread != t, at, u)
+    let owner = cell(threads, at);
+    let next = cell(nexts, at);
+    let u = unlink_thread(threads, addresses, nexts, t, next, left - 1, free);
+    if owner != t {
+        put_cell(nexts, at, u.head);
+        return Ends {
+            free: u.free,
+            head: at,
+        };
+    }
+    put_cell(threads, at, 0);
+    put_cell(addresses, at, 0);
+    put_cell(nexts, at, u.free);
+    Ends {
+        free: at,
+        head: u.head,
+    }
+}
+
+// The records that have these columns.
+fn join(threads: [u32; 64], addresses: [u32; 64], nexts: [u32; 64]) -> [Waiter; 64]
+    ensures { λ r. ⌜ r ≡ joined threads addresses nexts ⌝ }
+{
+    let none = Waiter {
+        thread: 0,
+        address: 0,
+        next: 0,
+    };
+    let mut l = [none; 64];
+    let mut i: usize = 0;
+    while i < 64 {
+        l[i] = Waiter {
+            thread: threads[i],
+            address: addresses[i],
+            next: nexts[i],
+        };
+        i += 1;
+    }
+    l
 }
 
 // Only an arbiter has a chain.
@@ -229,25 +315,26 @@ pub fn retain_marked(s: ObjectStore, o: ObjectId, gone: &[u32]) -> ObjectStore
 pub fn drop_thread(s: ObjectStore, t: u32) -> ObjectStore
     ensures { λ r. ⌜ r ≡ def.dropThread 128 1 t s ⌝ }
 {
-    let mut l = s.slots;
-    let mut ws = s.waiters;
+    let ws = s.waiters;
+    let mut threads = tally::columns::threads_of(ws);
+    let mut addresses = tally::columns::addresses_of(ws);
+    let mut nexts = tally::columns::nexts_of(ws);
+    let mut q = s;
     let mut free = s.free_waiter;
     let mut i: usize = 0;
     while i < 128 {
-        let old = l[i];
+        let old = q.slots[i];
         let object = old.object;
         let head = types::object::head_of(object);
         if head != 0 {
-            let u = unlink_thread(ws, t, head, 64, free);
-            l[i] = headed(old, u.head);
-            ws = u.waiters;
+            let u = unlink_thread(&mut threads, &mut addresses, &mut nexts, t, head, 64, free);
+            q.slots[i] = headed(old, u.head);
             free = u.free;
         }
         i += 1;
     }
-    let mut q = s;
-    q.slots = l;
-    q.waiters = ws;
+    let l = join(threads, addresses, nexts);
+    q.waiters = l;
     q.free_waiter = free;
     q
 }

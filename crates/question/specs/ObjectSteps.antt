@@ -107,25 +107,6 @@ module _ (nx ts ad : List ℕ) (left h : ℕ) (p : left ≢ 0) (q : h ≢ 0) (t 
       unfolding chain? _and_
       chain-go n l e = rw (walk-go nx left h p q, ← te, ← ae, ← ne, lt-ltb t n l, e)
 
--- ---- a column is made from left to right
-module _ {A : Type 0} (f : A → ℕ) where
-  pub map-more : (l : List A) (d : A) (r : List ℕ) (i : ℕ) → i < length l → i < length r → take i r ≡ map f (take i l)
-      → take (i + 1) (set r i (f (getD l i d))) ≡ map f (take (i + 1) l)
-  map-more l d r i h k e = rw add-one (go l r i h k e)
-    where
-      go : (l : List A) (r : List ℕ) (i : ℕ) → i < length l → i < length r → take i r ≡ map f (take i l)
-          → take (suc i) (set r i (f (getD l i d))) ≡ map f (take (suc i) l)
-      go [] r i h k e = absurd (omega arith)
-      go (x ∷ l) [] i h k e = absurd (omega arith)
-      go (x ∷ l) (y ∷ r) zero h k e = refl
-      go (x ∷ l) (y ∷ r) (suc i) h k e =
-          let a : y ≡ f x = cc in
-          let b : take i r ≡ map f (take i l) = cc in
-          rw (a, go l r i (omega arith) (omega arith) b)
-
-  pub map-done : (l : List A) (r : List ℕ) (i : ℕ) → length l ≤ i → length r ≤ i → take i r ≡ map f (take i l) → r ≡ map f l
-  map-done l r i h k e = sym (take-all i r k) ∙ e ∙ rw (take-all i l h)
-
 -- ---- tests of every slot, from the last to the first
 pub slots-step : (l : List Slot) (c m : List ℕ) (o : ℕ) → 0 < o
     → slots? l c m o ≡ slot? (getD l (o - 1) noSlot) (getD c o 0) (getD m o 0) and slots? l c m (o - 1)

@@ -2,12 +2,11 @@
 use crate::chains;
 use types::object::ObjectStore;
 use types::object::Slot;
-use types::object::Waiter;
 ghost use mathlib.Core.Path.{_≡_};
 ghost use lib.ListN.{length};
 ghost use Rattle.laws.specs.Logic.{_and_};
 ghost use Rattle.laws.specs.Tally.{tallyAll};
-ghost use Rattle.sound.specs.View.{heads, waiterNexts, waiterThreads, waiterAddresses};
+ghost use Rattle.sound.specs.View.{heads};
 ghost use Rattle.sound.specs.Records.{records?};
 ghost use Rattle.question.specs.LinearObjects.{endAll?, walkAll, onceAll?, sharedOut?, chainsBy?};
 
@@ -22,46 +21,6 @@ fn heads_of(l: [Slot; 128]) -> [u32; 128]
         let s = l[i];
         let o = s.object;
         r[i] = types::object::head_of(o);
-        i += 1;
-    }
-    r
-}
-
-fn nexts_of(l: [Waiter; 64]) -> [u32; 64]
-    ensures { λ r. ⌜ r ≡ waiterNexts l ⌝ }
-    ensures { λ _. ⌜ length l ≡ 64 ⌝ }
-{
-    let mut r = [0u32; 64];
-    let mut i: usize = 0;
-    while i < 64 {
-        let w = l[i];
-        r[i] = w.next;
-        i += 1;
-    }
-    r
-}
-
-fn threads_of(l: [Waiter; 64]) -> [u32; 64]
-    ensures { λ r. ⌜ r ≡ waiterThreads l ⌝ }
-{
-    let mut r = [0u32; 64];
-    let mut i: usize = 0;
-    while i < 64 {
-        let w = l[i];
-        r[i] = w.thread;
-        i += 1;
-    }
-    r
-}
-
-fn addresses_of(l: [Waiter; 64]) -> [u32; 64]
-    ensures { λ r. ⌜ r ≡ waiterAddresses l ⌝ }
-{
-    let mut r = [0u32; 64];
-    let mut i: usize = 0;
-    while i < 64 {
-        let w = l[i];
-        r[i] = w.address;
         i += 1;
     }
     r
@@ -140,12 +99,12 @@ pub fn records_ok(n: u32, s: ObjectStore) -> bool
     let w = s.waiters;
     let free = s.free_waiter;
     let hs = heads_of(l);
-    let nx = nexts_of(w);
+    let nx = tally::columns::nexts_of(w);
     if !shared_out(nx, hs, free) {
         return false;
     }
-    let ts = threads_of(w);
-    let ad = addresses_of(w);
+    let ts = tally::columns::threads_of(w);
+    let ad = tally::columns::addresses_of(w);
     if !chains_ok(&nx, &ts, &ad, n, hs) {
         return false;
     }

@@ -1,2 +1,3 @@
 -- The definitions that the contracts of `tally` cite.
 pub mod Lists
+pub mod Columns

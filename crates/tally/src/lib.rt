@@ -1,4 +1,6 @@
 // Counting into an array: how often each number is named.
+pub mod columns;
+
 use types::object::HandleEntry;
 use types::thread::Thread;
 use units::ObjectId;

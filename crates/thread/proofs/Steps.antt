@@ -81,3 +81,9 @@ unfolding releases
 waits-far s ts t h =
     let e : threadAt ts t ≡ noThread = List·getD-eq-default ts noThread h in
     rw e
+
+-- a cell that is changed twice
+pub set-again : {A : Type 0} (f : A → A) (d : A) (l : List A) (i : ℕ) (a : A) → set l i (f a) ≡ set (set l i a) i (f (getD (set l i a) i d))
+set-again f d [] i a = refl
+set-again f d (x ∷ xs) zero a = refl
+set-again f d (x ∷ xs) (suc i) a = ap (λ z. x ∷ z) (set-again f d xs i a)

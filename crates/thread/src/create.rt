@@ -126,17 +126,19 @@ fn create_at(
     }
 }
 
-// The new thread's number is that of `ended_thread`.
+// The caller has the new thread's number, that of `ended_thread`, and its slot.
 pub fn create_thread(
     k: Kernel,
+    id: u32,
+    tls: u32,
     entry: u32,
     stack_top: u32,
     priority: u32,
     processor_id: u32,
 ) -> Kernel
+    requires { ⌜ id ≡ def.endedThread k ⌝ }
+    requires { ⌜ tls ≡ def.tlsSlot k ⌝ }
     ensures { λ r. ⌜ r ≡ def.createThread k entry «stack_top» priority «processor_id» ⌝ }
 {
-    let id = places::ended_thread(k);
-    let tls = places::tls_slot(k);
     create_at(id, tls, k, entry, stack_top, priority, processor_id)
 }

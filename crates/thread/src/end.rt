@@ -108,26 +108,16 @@ fn disowned_slot(t: u32, s: Slot) -> Slot
     }
 }
 
-fn disowned_slots(t: u32, slots: [Slot; 128]) -> [Slot; 128]
-    ensures { λ r. ⌜ r ≡ def.disownedSlots t slots ⌝ }
-{
-    let mut l = slots;
-    let mut i: usize = 0;
-    while i < 128 {
-        l[i] = disowned_slot(t, l[i]);
-        i += 1;
-    }
-    l
-}
-
 // Every mutex that the thread owns is given back, all the way down.
 fn disown(s: ObjectStore, t: u32) -> ObjectStore
     ensures { λ r. ⌜ r ≡ def.disown s t ⌝ }
 {
-    let slots = s.slots;
-    let l = disowned_slots(t, slots);
     let mut q = s;
-    q.slots = l;
+    let mut i: usize = 0;
+    while i < 128 {
+        q.slots[i] = disowned_slot(t, q.slots[i]);
+        i += 1;
+    }
     q
 }
 
@@ -140,45 +130,52 @@ fn left_by(w: ThreadOption, t: u32) -> ThreadOption
     w
 }
 
-fn put_dead(ts: [Thread; 32], t: u32) -> [Thread; 32]
-    ensures { λ r. ⌜ r ≡ set ts t (def.ended (threadAt ts t)) ⌝ }
+// A thread that waits for nothing and is Dead.
+fn ended(t: Thread) -> Thread
+    ensures { λ r. ⌜ r ≡ def.ended (clearWait t) ⌝ }
+{
+    thread::with_result(
+        thread::with_status(thread::clear_wait(t), ThreadStatus::Dead),
+        WaitResult::NoResult,
+        WaitSyscall::NoSyscall,
+    )
+}
+
+fn put_ended(ts: [Thread; 32], t: u32) -> [Thread; 32]
+    ensures { λ r. ⌜ r ≡ set ts t (def.ended (clearWait (threadAt ts t))) ⌝ }
 {
     if 32 <= t {
         return ts;
     }
     let i = t as usize;
     let mut l = ts;
-    l[i] = thread::with_result(
-        thread::with_status(l[i], ThreadStatus::Dead),
-        WaitResult::NoResult,
-        WaitSyscall::NoSyscall,
-    );
+    l[i] = ended(l[i]);
     l
 }
 
+// The end of the wait and of the thread at once, so that the state is copied once.
 pub fn end_thread(k: Kernel, t: u32) -> Kernel
     ensures { λ r. ⌜ r ≡ def.endThread k t ⌝ }
 {
-    let w = end_wait(k, t);
-    let before = w.objects;
-    let objects = disown(before, t);
-    let old = w.threads;
-    let threads = put_dead(old, t);
-    let handles = w.handles;
-    let was = w.current_thread;
+    let ts = k.threads;
+    let before = k.objects;
+    let objects = disown(release_waits(before, ts, t), t);
+    let threads = put_ended(ts, t);
+    let handles = k.handles;
+    let was = k.current_thread;
     let current = left_by(was, t);
     Kernel {
-        status_word: w.status_word,
+        status_word: k.status_word,
         objects: objects,
         handles: handles,
         threads: threads,
-        thread_count: w.thread_count,
+        thread_count: k.thread_count,
         current_thread: current,
-        next_tls_slot: w.next_tls_slot,
-        next_guest_id: w.next_guest_id,
-        all_blocked: w.all_blocked,
-        relief: w.relief,
-        full: w.full,
-        overflow: w.overflow,
+        next_tls_slot: k.next_tls_slot,
+        next_guest_id: k.next_guest_id,
+        all_blocked: k.all_blocked,
+        relief: k.relief,
+        full: k.full,
+        overflow: k.overflow,
     }
 }

@@ -22,6 +22,8 @@ use Rattle.host.proofs.create_thread.put_made.Reads as put-made-reads
 use Rattle.host.proofs.questions.block_ok.Reads as block-ok-reads
 use Rattle.host.proofs.questions.first_finding.Reads as first-finding-reads
 use Rattle.thread.proofs.create.create_thread.Reads as create-thread-reads
+use Rattle.thread.proofs.places.ended_thread.Reads as ended-thread-reads
+use Rattle.thread.proofs.places.tls_slot.Reads as tls-slot-reads
 
 abbrev work : ℕ → ℕ → ℕ → ℕ → Kernel → Kernel
 work entry stack priority processor = λ k. createThread k entry stack priority processor
@@ -69,8 +71,14 @@ returns-4 c =
     let l = lent (a .block .now) (a .bank .now) [] [] (a .answer .now) in
     change-2 _ (λ k. 0) (work (a .entry) (a .stack-top) (a .priority) (a .processor-id)) (written l (a .entry) (a .stack-top) (a .arg) (a .priority) (a .processor-id)) l (true-and _ _ (eq-eqb _ 16384 (q .before .before .if1 .left)) (true-and _ _ (eq-eqb _ 6656 (q .before .if2 .left)) (eq-eqb _ 4 (q .if3 .left)))) _ (d .decode .ensures) _ (o .block-ok .ensures) (not-true _ (c .if4 .taken))
 
+ended-thread-requires : tie.Need-ended-thread-requires
+ended-thread-requires c κs = search needs
+
+tls-slot-requires : tie.Need-tls-slot-requires
+tls-slot-requires c κs = search needs
+
 create-thread-requires : tie.Need-create-thread-requires
-create-thread-requires c κs = search needs
+create-thread-requires c κs = (c .before .ended-thread .ensures, c .tls-slot .ensures)
 
 first-finding-requires : tie.Need-first-finding-requires
 first-finding-requires c κs = search needs
@@ -83,11 +91,11 @@ unfolding operation.createThread
 returns-5 c =
     let f = c .before in
     let m = f .before in
-    let i = m .before in
+    let i = m .before .before .before in
     let o = i .before in
     let d = o .before .before in
     let q = d .before .before in
-    let a = c .before .before .before .before .before .before .before .before .before .before .before .before .before .before .args in
+    let a = c .before .before .before .before .before .before .before .before .before .before .before .before .before .before .before .before .args in
     let l = lent (a .block .now) (a .bank .now) [] [] (a .answer .now) in
     change-found _ (λ k. 0) (work (a .entry) (a .stack-top) (a .priority) (a .processor-id)) (written l (a .entry) (a .stack-top) (a .arg) (a .priority) (a .processor-id)) l (true-and _ _ (eq-eqb _ 16384 (q .before .before .if1 .left)) (true-and _ _ (eq-eqb _ 6656 (q .before .if2 .left)) (eq-eqb _ 4 (q .if3 .left)))) _ (d .decode .ensures) _ (o .block-ok .ensures) (not-false _ (i .if4 .left)) 0 refl refl _ (f .first-finding .ensures ∙ ap finding (m .create-thread .ensures)) (c .if5 .taken)
 
@@ -99,14 +107,22 @@ put-made-requires c κs =
     let g = c .before .before .before .before .before .before in
     let f = g .before in
     let m = f .before in
-    let a = c .before .before .before .before .before .before .before .before .before .before .before .before .before .before .before .before .before .before .before .before .args in
-    let d = m .before .before .before .before in
+    let t = m .before in
+    let e = t .before in
+    let a = c .before .before .before .before .before .before .before .before .before .before .before .before .before .before .before .before .before .before .before .before .before .before .args in
+    let d = e .before .before .before .before in
     let q = d .before .before in (
       q .before .if2 .left,
       (
         q .if3 .left,
-        made-place (d .decode .result) (a .entry) (a .stack-top) (a .priority) (a .processor-id)
-            (ap finding (sym (m .create-thread .ensures)) ∙ (sym (f .first-finding .ensures) ∙ g .if5 .left)),
+        (
+          e .ended-thread .ensures,
+          (
+            t .tls-slot .ensures,
+            rw (e .ended-thread .ensures) (made-place (d .decode .result) (a .entry) (a .stack-top) (a .priority) (a .processor-id)
+                (ap finding (sym (m .create-thread .ensures)) ∙ (sym (f .first-finding .ensures) ∙ g .if5 .left))),
+          ),
+        ),
       ),
     )
 
@@ -127,11 +143,11 @@ returns-6 c =
     let g = e .before .before in
     let f = g .before in
     let m = f .before in
-    let i = m .before in
+    let i = m .before .before .before in
     let o = i .before in
     let d = o .before .before in
     let q = d .before .before in
-    let a = c .before .before .before .before .before .before .before .before .before .before .before .before .before .before .before .before .before .before .before .before .before .before .before .before .before .args in
+    let a = c .before .before .before .before .before .before .before .before .before .before .before .before .before .before .before .before .before .before .before .before .before .before .before .before .before .before .before .args in
     let l = lent (a .block .now) (a .bank .now) [] [] (a .answer .now) in
     rw (e .encode .ensures, w .put-made .ensures .0, w .put-made .ensures .1, m .create-thread .ensures)
     (change-0 _ (λ k. 0) (work (a .entry) (a .stack-top) (a .priority) (a .processor-id)) (written l (a .entry) (a .stack-top) (a .arg) (a .priority) (a .processor-id)) l (true-and _ _ (eq-eqb _ 16384 (q .before .before .if1 .left)) (true-and _ _ (eq-eqb _ 6656 (q .before .if2 .left)) (eq-eqb _ 4 (q .if3 .left)))) _ (d .decode .ensures) _ (o .block-ok .ensures) (not-false _ (i .if4 .left)) 0 refl refl _ (f .first-finding .ensures ∙ ap finding (m .create-thread .ensures)) (g .if5 .left))
@@ -147,6 +163,8 @@ kernel-create-thread-spec =
     block-ok-requires
     same-length
     returns-4
+    ended-thread-requires
+    tls-slot-requires
     create-thread-requires
     first-finding-requires
     same-length-2

@@ -9,15 +9,7 @@ use Rattle.host.proofs.create_thread.put_made.Reads as reads
 use Rattle.host.proofs.create_thread.put_made.Lts as lts
 use Rattle.block.proofs.context.put_row.Reads as put-row-reads
 use Rattle.codec.proofs.put32.Reads as put32-reads
-use Rattle.thread.proofs.places.ended_thread.Reads as ended-thread-reads
-use Rattle.thread.proofs.places.tls_slot.Reads as tls-slot-reads
 use Rattle.thread.proofs.thread.new_context.Reads as new-context-reads
-
-ended-thread-requires : tie.Need-ended-thread-requires
-ended-thread-requires c κs = search needs
-
-tls-slot-requires : tie.Need-tls-slot-requires
-tls-slot-requires c κs = search needs
 
 new-context-requires : tie.Need-new-context-requires
 new-context-requires c κs = search needs
@@ -39,18 +31,15 @@ returns c =
     let v = c .before .before in
     let r = v .before .before .before .before in
     let x = r .before .before in
-    let t = x .before in
-    let e = t .before in
-    let b = e .before .before .before in
+    let b = x .before .before .before in
     let a = b .args in
-    (rw (r .put-row .ensures, x .new-context .ensures, t .tls-slot .ensures, e .ended-thread .ensures), rw (v .put32 .ensures, e .ended-thread .ensures) (over-all (a .answer .now) (bytes 4 (endedThread (a .k))) (omega (arith, length-bytes 4 (endedThread (a .k)), b .pre))))
+    let p = b .pre .1 .1 in
+    (rw (r .put-row .ensures, x .new-context .ensures, p .1 .0, p .0), rw (v .put32 .ensures, p .0) (over-all (a .answer .now) (bytes 4 (endedThread (a .k))) (omega (arith, length-bytes 4 (endedThread (a .k)), b .pre))))
 
 pub put-made-spec : {M : Type 1} → statement M
 put-made-spec =
     tie.close
     (tie.spec
-    ended-thread-requires
-    tls-slot-requires
     new-context-requires
     put-row-requires
     put32-requires

@@ -1,69 +1,159 @@
-use mathlib.Core.Path.{_≡_, refl, sym, _∙_}
+use mathlib.Core.Path.{_≡_, refl, ap, sym, _∙_}
 use mathlib.Core.Logic.{⊎-elim}
-use Prim.Native.Nat.{_+_, _-_, _≤_}
+use mathlib.Core.List.{List}
+use Prim.Native.Nat.{ℕ, _+_, _-_, _≤_}
+use native.Mathlib.Omega.{arith}
 use lib.ListN.{length, length-set, length-map}
+use Rattle.types.specs.declared.object.Waiter.{Waiter}
 use Rattle.object.specs.Waiters.{dropThread}
+use Rattle.object.specs.Cells.{joined, linksOf, joined-columns}
 use Rattle.object.proofs.Laws.{withRecords, drop-head, drop-none, drop-end}
 use borrow.Author.Needs.{needs}
 use Rattle.object.proofs.waiters.drop_thread.Statement.{statement}
 use Rattle.object.proofs.waiters.drop_thread.Tie as tie
+use Rattle.object.proofs.waiters.drop_thread.Reads as reads
+use Rattle.object.proofs.waiters.drop_thread.Lts as lts
+use Rattle.object.proofs.waiters.headed.Reads as headed-reads
+use Rattle.object.proofs.waiters.join.Reads as join-reads
+use Rattle.object.proofs.waiters.unlink_thread.Reads as unlink-thread-reads
+use Rattle.tally.proofs.columns.addresses_of.Reads as addresses-of-reads
+use Rattle.tally.proofs.columns.nexts_of.Reads as nexts-of-reads
+use Rattle.tally.proofs.columns.threads_of.Reads as threads-of-reads
+use Rattle.types.proofs.object.head_of.Reads as head-of-reads
 
 abbrev Inv-loop : tie.InvT-loop
-Inv-loop s t l₀ ws₀ free₀ i₀ l ws free i = (i ≤ 128) × ((length l ≡ 128) × (dropThread (128 - i) (i + 1) t (withRecords s l ws free) ≡ dropThread 128 1 t s))
+Inv-loop t threads₀ addresses₀ nexts₀ q₀ free₀ i₀ threads addresses nexts q free i =
+    (i ≤ 128)
+    × ((length (q .slots) ≡ 128)
+    × ((length threads ≡ 64)
+    × ((length addresses ≡ 64)
+    × ((length nexts ≡ 64)
+    × (dropThread (128 - i) (i + 1) t (withRecords q (q .slots) (joined threads addresses nexts) free) ≡ dropThread 128 1 t q₀)))))
 
 abbrev μ-loop : tie.MeasureT-loop
-μ-loop s t l₀ ws₀ free₀ i₀ l ws free i = 128 - i
+μ-loop t threads₀ addresses₀ nexts₀ q₀ free₀ i₀ threads addresses nexts q free i = 128 - i
 
+-- src/waiters.rt:305:23
+threads-of-requires : tie.Need-threads-of-requires Inv-loop μ-loop
+threads-of-requires c κs = search needs
+
+-- src/waiters.rt:306:25
+addresses-of-requires : tie.Need-addresses-of-requires Inv-loop μ-loop
+addresses-of-requires c κs = search needs
+
+-- src/waiters.rt:307:21
+nexts-of-requires : tie.Need-nexts-of-requires Inv-loop μ-loop
+nexts-of-requires c κs = search needs
+
+-- src/waiters.rt:311:5
 loop-holds : tie.Need-loop-holds Inv-loop μ-loop
 loop-holds c =
-    let s = c .before .before in
-    (search needs, (sym (length-map (s .args .s .slots) _) ∙ s .good .0 .1 .1 .0 .1 .0 .1, refl))
+    let s = c .before .before .before .before in
+    let n = c .nexts-of .ensures in
+    let t = c .before .before .threads-of .ensures in
+    let a = c .before .addresses-of .ensures in (
+      search needs,
+      (
+        sym (length-map (s .args .s .slots) _) ∙ s .good .0 .1 .1 .0 .1 .0 .1,
+        (
+          rw (t, length-map) (n .1),
+          (
+            rw (a, length-map) (n .1),
+            (
+              rw (n .0, length-map) (n .1),
+              rw (t, a, n .0) (ap (λ (l : List Waiter). dropThread 128 1 (s .args .t) (withRecords (s .args .s) (s .args .s .slots) l (s .args .s .«free_waiter»))) (joined-columns (s .args .s .waiters))),
+            ),
+          ),
+        ),
+      ),
+    )
 
+-- src/waiters.rt:312:19
 mul-old : tie.Need-mul-old Inv-loop μ-loop
 mul-old c = search needs
 
-array-copy-out-old : tie.Need-array-copy-out-old Inv-loop μ-loop
-array-copy-out-old c = search needs
+-- src/waiters.rt:312:19
+element-copy-out-old : tie.Need-element-copy-out-old Inv-loop μ-loop
+element-copy-out-old c = search needs
 
+-- src/waiters.rt:314:13
 head-of-requires : tie.Need-head-of-requires Inv-loop μ-loop
 head-of-requires c κs = search needs
 
+-- src/waiters.rt:316:17
 unlink-thread-requires : tie.Need-unlink-thread-requires Inv-loop μ-loop
 unlink-thread-requires c κs = search needs
 
+-- src/waiters.rt:325:26
 headed-requires : tie.Need-headed-requires Inv-loop μ-loop
 headed-requires c κs = search needs
 
-mul-l : tie.Need-mul-l Inv-loop μ-loop
-mul-l c = search needs
+-- src/waiters.rt:325:13
+mul-t25 : tie.Need-mul-t25 Inv-loop μ-loop
+mul-t25 c = search needs
 
-array-set-from-l : tie.Need-array-set-from-l Inv-loop μ-loop
-array-set-from-l c = search needs
+-- src/waiters.rt:325:13
+element-set-from-q : tie.Need-element-set-from-q Inv-loop μ-loop
+element-set-from-q c = search needs
 
+-- src/waiters.rt:328:9
 add-i : tie.Need-add-i Inv-loop μ-loop
 add-i c = search needs
 
+-- src/waiters.rt:311:5
 loop-less : tie.Need-loop-less Inv-loop μ-loop
 loop-less c = search needs
 
+-- src/waiters.rt:311:5
 loop-again : tie.Need-loop-again Inv-loop μ-loop
 loop-again c =
     let l = c .before .before .before .before .loop in
-    let s = c .before .before .before .before .before .before .before .args in
+    let v = l .inv .1 in
+    let s = c .before .before .before .before .before .before .before .before .before .args in
     let h = c .before .before .before .loop-test .taken in
-    let e = c .before .head-of .ensures in (
+    let e = c .before .head-of .ensures in
+    let W = joined (l .threads) (l .addresses) (l .nexts) in (
       search needs,
       ⊎-elim
-          (λ w. (rw (w .4, length-set) (l .inv .1 .0), rw (w .4, w .5, w .6, w .2 .ensures) (drop-head (s .s) (l .l) (l .ws) (l .free) (s .t) (l .i) h (w .1 .result) (rw e at (w .1 .ensures)) ∙ l .inv .1 .1)))
-          (λ w. (rw (w .1) (l .inv .1 .0), rw (w .1, w .2, w .3) (drop-none (s .s) (l .l) (l .ws) (l .free) (s .t) (l .i) h (sym e ∙ w .0 .left) ∙ l .inv .1 .1)))
+          (λ w. (
+            rw (w .9, length-set) (v .0),
+            (
+              rw (w .6) (w .4 .ensures .1 .0),
+              (
+                rw (w .7) (w .4 .ensures .1 .1 .0),
+                (
+                  rw (w .8) (w .4 .ensures .1 .1 .1),
+                  rw (w .6, w .7, w .8, w .9, w .10, w .5 .ensures) (drop-head (l .q) (l .q .slots) W (l .free) (s .t) (l .i) h (linksOf (w .4 .last .0) (w .4 .last .1 .0) (w .4 .last .1 .1 .0) (w .4 .result)) (rw e at (w .4 .ensures .0)) ∙ v .1 .1 .1 .1),
+                ),
+              ),
+            ),
+          ))
+          (λ w. (
+            rw (w .4) (v .0),
+            (
+              rw (w .1) (v .1 .0),
+              (
+                rw (w .2) (v .1 .1 .0),
+                (
+                  rw (w .3) (v .1 .1 .1 .0),
+                  rw (w .1, w .2, w .3, w .4, w .5) (drop-none (l .q) (l .q .slots) W (l .free) (s .t) (l .i) h (sym e ∙ w .0 .left) ∙ v .1 .1 .1 .1),
+                ),
+              ),
+            ),
+          ))
           (c .if1 .came),
     )
 
+-- src/waiters.rt:330:9
+join-requires : tie.Need-join-requires Inv-loop μ-loop
+join-requires c κs = search needs
+
+-- src/waiters.rt:301:1
 returns : tie.Need-returns Inv-loop μ-loop
 returns c =
-    let l = c .before .loop in
-    let s = c .before .before .before .before .args in
-    sym (drop-end (withRecords (s .s) (l .l) (l .ws) (l .free)) (s .t) (l .i) (c .loop-test .left)) ∙ l .inv .1 .1
+    let l = c .before .before .loop in
+    let s = c .before .before .before .before .before .before .before .args in
+    rw (c .join .ensures) (sym (drop-end (withRecords (l .q) (l .q .slots) (joined (l .threads) (l .addresses) (l .nexts)) (l .free)) (s .t) (l .i) (c .before .loop-test .left)) ∙ l .inv .1 .1 .1 .1 .1)
 
 pub drop-thread-spec : {M : Type 1} → statement M
 drop-thread-spec =
@@ -71,15 +161,19 @@ drop-thread-spec =
     (tie.spec
     Inv-loop
     μ-loop
+    threads-of-requires
+    addresses-of-requires
+    nexts-of-requires
     loop-holds
     mul-old
-    array-copy-out-old
+    element-copy-out-old
     head-of-requires
     unlink-thread-requires
     headed-requires
-    mul-l
-    array-set-from-l
+    mul-t25
+    element-set-from-q
     add-i
     loop-less
     loop-again
+    join-requires
     returns)

@@ -4,7 +4,7 @@ use native.Mathlib.Omega.{arith}
 use lib.ListN.{length, take}
 use Rattle.types.specs.declared.thread.Thread.{Thread}
 use Rattle.question.specs.LinearObjects.{deadMark, deadMarks}
-use Rattle.question.specs.ObjectSteps.{map-more, map-done}
+use Rattle.tally.specs.Columns.{map-more, map-done}
 use borrow.Author.Needs.{needs}
 use Rattle.question.proofs.objects.dead_marks.Statement.{statement}
 use Rattle.question.proofs.objects.dead_marks.Tie as tie

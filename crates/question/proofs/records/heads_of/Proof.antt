@@ -5,7 +5,7 @@ use lib.ListN.{length, take}
 use Rattle.types.specs.declared.object.Slot.{Slot}
 use Rattle.types.specs.Object.{headOf}
 use Rattle.sound.specs.View.{heads}
-use Rattle.question.specs.ObjectSteps.{map-more, map-done}
+use Rattle.tally.specs.Columns.{map-more, map-done}
 use borrow.Author.Needs.{needs}
 use Rattle.question.proofs.records.heads_of.Statement.{statement}
 use Rattle.question.proofs.records.heads_of.Tie as tie

@@ -4,10 +4,10 @@ use native.Mathlib.Omega.{arith}
 use lib.ListN.{length, take}
 use Rattle.types.specs.declared.object.Waiter.{Waiter}
 use Rattle.sound.specs.View.{waiterThreads}
-use Rattle.question.specs.ObjectSteps.{map-more, map-done}
+use Rattle.tally.specs.Columns.{map-more, map-done}
 use borrow.Author.Needs.{needs}
-use Rattle.question.proofs.records.threads_of.Statement.{statement}
-use Rattle.question.proofs.records.threads_of.Tie as tie
+use Rattle.tally.proofs.columns.threads_of.Statement.{statement}
+use Rattle.tally.proofs.columns.threads_of.Tie as tie
 
 abbrev Inv-loop : tie.InvT-loop
 Inv-loop l r₀ i₀ r i = (i ≤ 64) × ((length r ≡ 64) × (take i r ≡ waiterThreads (take i l)))

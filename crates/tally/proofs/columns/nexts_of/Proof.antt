@@ -3,14 +3,14 @@ use Prim.Native.Nat.{_-_, _≤_, _<_}
 use native.Mathlib.Omega.{arith}
 use lib.ListN.{length, take}
 use Rattle.types.specs.declared.object.Waiter.{Waiter}
-use Rattle.sound.specs.View.{waiterAddresses}
-use Rattle.question.specs.ObjectSteps.{map-more, map-done}
+use Rattle.sound.specs.View.{waiterNexts}
+use Rattle.tally.specs.Columns.{map-more, map-done}
 use borrow.Author.Needs.{needs}
-use Rattle.question.proofs.records.addresses_of.Statement.{statement}
-use Rattle.question.proofs.records.addresses_of.Tie as tie
+use Rattle.tally.proofs.columns.nexts_of.Statement.{statement}
+use Rattle.tally.proofs.columns.nexts_of.Tie as tie
 
 abbrev Inv-loop : tie.InvT-loop
-Inv-loop l r₀ i₀ r i = (i ≤ 64) × ((length r ≡ 64) × (take i r ≡ waiterAddresses (take i l)))
+Inv-loop l r₀ i₀ r i = (i ≤ 64) × ((length r ≡ 64) × (take i r ≡ waiterNexts (take i l)))
 
 abbrev μ-loop : tie.MeasureT-loop
 μ-loop l r₀ i₀ r i = 64 - i
@@ -43,7 +43,7 @@ loop-again c =
     let n : length (s .args .t1) ≡ 64 = omega (arith, s .good) in
     let h : l .i < length (s .args .t1) = omega arith in
     let k : l .i < length (l .r) = omega arith in
-    (search needs, (search needs, (map-more (λ (x : Waiter). x .address) (s .args .t1) _ (l .r) (l .i) h k (l .inv .1 .1))))
+    (search needs, (search needs, (map-more (λ (x : Waiter). x .next) (s .args .t1) _ (l .r) (l .i) h k (l .inv .1 .1))))
 
 returns : tie.Need-returns Inv-loop μ-loop
 returns c =
@@ -52,10 +52,10 @@ returns c =
     let n : length (s .args .t1) ≡ 64 = omega (arith, s .good) in
     let e : length (s .args .t1) ≤ l .i = omega arith in
     let k : length (l .r) ≤ l .i = omega arith in
-    map-done (λ (x : Waiter). x .address) (s .args .t1) (l .r) (l .i) e k (l .inv .1 .1)
+    (map-done (λ (x : Waiter). x .next) (s .args .t1) (l .r) (l .i) e k (l .inv .1 .1), n)
 
-pub addresses-of-spec : {M : Type 1} → statement M
-addresses-of-spec =
+pub nexts-of-spec : {M : Type 1} → statement M
+nexts-of-spec =
     tie.close
     (tie.spec
     Inv-loop

@@ -1,0 +1,28 @@
+use borrow.Author.Needs.{needs}
+use Rattle.thread.proofs.end.ended.Statement.{statement}
+use Rattle.thread.proofs.end.ended.Tie as tie
+use Rattle.thread.proofs.end.ended.Reads as reads
+use Rattle.thread.proofs.end.ended.Lts as lts
+use Rattle.thread.proofs.thread.clear_wait.Reads as clear-wait-reads
+use Rattle.thread.proofs.thread.with_result.Reads as with-result-reads
+use Rattle.thread.proofs.thread.with_status.Reads as with-status-reads
+
+-- src/end.rt:138:29
+clear-wait-requires : tie.Need-clear-wait-requires
+clear-wait-requires c κs = search needs
+
+-- src/end.rt:138:9
+with-status-requires : tie.Need-with-status-requires
+with-status-requires c κs = search needs
+
+-- src/end.rt:137:5
+with-result-requires : tie.Need-with-result-requires
+with-result-requires c κs = search needs
+
+-- src/end.rt:134:1
+returns : tie.Need-returns
+returns c = rw (c .with-result .ensures, c .before .with-status .ensures, c .before .before .clear-wait .ensures)
+
+pub ended-spec : {M : Type 1} → statement M
+ended-spec =
+    tie.close (tie.spec clear-wait-requires with-status-requires with-result-requires returns)
