@@ -65,23 +65,25 @@ fn put_head(b: &mut [u8], h: Head)
     codec::put_zeros(b, 64, 64);
 }
 
-// The state over all of a block.
+// The state over all of a block. Every table is taken out before the first write: the compiler cannot tell that k lies
+// outside b, and would otherwise copy the tables twice.
 pub fn encode(b: &mut [u8], k: Kernel)
     requires { ⌜ length (now b) ≡ 16384 ⌝ }
     ensures { λ _. ⌜ now (b .exit) ≡ encBlock k ⌝ }
 {
-    put_head(&mut b[0..128], head_words(k));
+    let head = head_words(k);
     let threads = k.threads;
-    thread::put_threads(b, 128, threads);
     let o = k.objects;
     let slots = o.slots;
-    slot::put_slots(b, 5248, slots);
+    let waiters = o.waiters;
+    let ids = o.thread_objects;
     let h = k.handles;
     let entries = h.entries;
+    put_head(&mut b[0..128], head);
+    thread::put_threads(b, 128, threads);
+    slot::put_slots(b, 5248, slots);
     table::put_entries(b, 10368, entries);
-    let waiters = o.waiters;
     table::put_waiters(b, 12416, waiters);
-    let ids = o.thread_objects;
     table::put_ids32(b, 13184, ids);
     codec::put_zeros(b, 13312, 3072);
 }

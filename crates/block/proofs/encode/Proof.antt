@@ -58,13 +58,13 @@ unfolding encBlock
 returns c =
     let z = c .before .before in
     let p5 = z .before .before .before .before in
-    let p4 = p5 .before .before .before .before .before in
-    let p3 = p4 .before .before .before .before .before in
-    let p2 = p3 .before .before .before .before .before .before in
-    let p1 = p2 .before .before .before .before .before .before in
-    let p = p1 .before .before .before .before .before in
-    let w = p .before .head-words in
-    let s = p .before .before .before .before in
+    let p4 = p5 .before .before .before .before in
+    let p3 = p4 .before .before .before .before in
+    let p2 = p3 .before .before .before .before in
+    let p1 = p2 .before .before .before .before in
+    let p = p1 .before .before .before .before in
+    let w = p .before .before .before .before .before .before .before .before .before .head-words in
+    let s = p .before .before .before .before .before .before .before .before .before .before .before in
     let k = s .args .k in
     let b = s .args .b .now in
     let H = encHead (w .result) in
@@ -94,10 +94,10 @@ pub encode-spec : {M : Type 1} → statement M
 encode-spec =
     tie.close
     (tie.spec
+    head-words-requires
     sub-put-head
     part-put-head-start
     part-put-head-end
-    head-words-requires
     put-head-requires
     put-threads-requires
     put-slots-requires
