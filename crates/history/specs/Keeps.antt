@@ -1,8 +1,8 @@
 -- An accepted operation leaves a block that question 2 accepts; a refused one leaves the block.
 use mathlib.Core.Path.{_≡_, refl, sym, _∙_}
-use mathlib.Core.Bool.{Bool, true, false}
+use mathlib.Core.Bool.{Bool, true, false, not}
 use mathlib.Core.List.{List, []}
-use Prim.Native.Nat.{ℕ, _<_}
+use Prim.Native.Nat.{ℕ, _%_, _<_}
 use native.Mathlib.Omega.{arith}
 use lib.Dec.{eqb, leb, ltb}
 use borrow.Author.Tests.{eqb-true, eqb-false, ltb-true}
@@ -21,9 +21,10 @@ use Rattle.thread.specs.Threads as thread
 use Rattle.soundness.specs.Creates.{createThread-sound}
 use Rattle.soundness.specs.Ends.{endThread-sound}
 use Rattle.pass.specs.Schedule as pass
+use Rattle.pass.specs.Asks as asks
 use Rattle.passing.specs.Pass.{schedule-sound}
 use Rattle.host.specs.Lent.{Lent, lent, withAnswer, withBlock, Back, back, accepted?}
-use Rattle.host.specs.Operations.{outOfHandles?, inspect, freshStart, tickBytes, nextEvent, finding, change, rowMade, createThread, passWritten, schedule, endRefusal, endThread}
+use Rattle.host.specs.Operations.{outOfHandles?, inspect, freshStart, tickBytes, nextEvent, finding, change, rowMade, createThread, passWritten, schedule, words, satisfiedBytes, satisfiedNow, releaseBytes, quietRelease, endRefusal, endThread}
 use Rattle.host.proofs.Cases.{nothing-full, nothing-over, nothing-over-objects}
 
 -- what holds of an operation on what was lent
@@ -59,6 +60,16 @@ fresh-keeps w h l = fresh-as w h l (eqb (length (l .block)) 16384 and eqb (lengt
 pub nextEvent-keeps : (l : Lent) → Kept l (nextEvent l)
 unfolding nextEvent
 nextEvent-keeps l = inspect-keeps (λ k. tickBytes (kernel.nextEvent k)) l (eqb (length (l .block)) 16384 and eqb (length (l .answer)) 16)
+
+pub satisfiedNow-keeps : (handles : List ℕ) (all tick : ℕ) (l : Lent) → Kept l (satisfiedNow handles all tick l)
+unfolding satisfiedNow
+satisfiedNow-keeps handles all tick l =
+    inspect-keeps (λ k. satisfiedBytes (asks.satisfiedNow k (words handles) (not (eqb all 0)) tick)) l
+    (eqb (length (l .block)) 16384 and (eqb (length handles % 4) 0 and eqb (length (l .answer)) 40))
+
+pub quietRelease-keeps : (handle tick : ℕ) (l : Lent) → Kept l (quietRelease handle tick l)
+unfolding quietRelease
+quietRelease-keeps handle tick l = inspect-keeps (λ k. releaseBytes (asks.quietRelease k handle tick)) l (eqb (length (l .block)) 16384 and eqb (length (l .answer)) 12)
 
 -- ---- an operation that changes the block
 -- a refusal of its own is none of the accepted numbers

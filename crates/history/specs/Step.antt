@@ -3,7 +3,7 @@ use mathlib.Core.List.{List, [], _∷_}
 use Prim.Native.Nat.{ℕ, _<_}
 use Rattle.codec.proofs.Back.{Bytes}
 use Rattle.host.specs.Lent.{lent, Back}
-use Rattle.host.specs.Operations.{freshStart, createThread, schedule, nextEvent, endThread}
+use Rattle.host.specs.Operations.{freshStart, createThread, schedule, nextEvent, satisfiedNow, quietRelease, endThread}
 
 -- an operation with everything lent besides the block and every number: what C can pass, so slices are of bytes and numbers fit
 pub data Op : Type 0 where
@@ -12,6 +12,8 @@ pub data Op : Type 0 where
   opCreateThread : (bank : List ℕ) → Bytes bank → (answer : List ℕ) → Bytes answer → (entry : ℕ) → entry < 4294967296 → (stack : ℕ) → stack < 4294967296
       → (arg : ℕ) → arg < 4294967296 → (priority : ℕ) → priority < 4294967296 → (processor : ℕ) → processor < 4294967296 → Op
   opSchedule : (bank : List ℕ) → Bytes bank → (processor : List ℕ) → Bytes processor → (answer : List ℕ) → Bytes answer → (tick : ℕ) → tick < 18446744073709551616 → Op
+  opSatisfiedNow : (handles : List ℕ) → Bytes handles → (answer : List ℕ) → Bytes answer → (all : ℕ) → all < 4294967296 → (tick : ℕ) → tick < 18446744073709551616 → Op
+  opQuietRelease : (answer : List ℕ) → Bytes answer → (handle : ℕ) → handle < 4294967296 → (tick : ℕ) → tick < 18446744073709551616 → Op
   opEndThread : (thread : ℕ) → thread < 4294967296 → Op
 
 unfoldable pub step : Op → List ℕ → Back
@@ -19,6 +21,8 @@ step (opFreshStart bank u word h) b = freshStart word (lent b bank [] [] [])
 step (opNextEvent answer u) b = nextEvent (lent b [] [] [] answer)
 step (opCreateThread bank u answer v entry e stack s arg a priority p processor q) b = createThread entry stack arg priority processor (lent b bank [] [] answer)
 step (opSchedule bank u processor p answer v tick h) b = schedule tick (lent b bank processor [] answer)
+step (opSatisfiedNow handles w answer u all h tick t) b = satisfiedNow handles all tick (lent b [] [] [] answer)
+step (opQuietRelease answer u handle h tick t) b = quietRelease handle tick (lent b [] [] [] answer)
 step (opEndThread thread h) b = endThread thread (lent b [] [] [] [])
 
 pub record Entry : Type 0 where

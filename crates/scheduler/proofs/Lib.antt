@@ -1,2 +1,3 @@
 -- The laws that the proofs of `scheduler` cite.
 pub mod Steps
+pub mod Calm

@@ -1,3 +1,4 @@
--- The choice and the switch as they are computed.
+-- The choice, the switch and a quiet release as they are computed.
 pub mod Best
 pub mod Switch
+pub mod Alone

@@ -14,7 +14,7 @@ ghost use Rattle.pass.specs.Pick.{pickNext};
 ghost use Rattle.pass.specs.Schedule as def;
 ghost use Rattle.scheduler.specs.Switch as computed;
 
-fn priority_at(ts: [Thread; 32], t: u32) -> u32
+pub fn priority_at(ts: [Thread; 32], t: u32) -> u32
     ensures { λ r. ⌜ r ≡ threadAt ts t .priority ⌝ }
 {
     if 32 <= t {

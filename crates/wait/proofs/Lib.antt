@@ -1,2 +1,3 @@
 -- The laws that the proofs of `wait` cite.
 pub mod Steps
+pub mod Open

@@ -1,2 +1,3 @@
 -- Waits as they are looked at.
 pub mod Looks
+pub mod Lists

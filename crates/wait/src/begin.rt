@@ -1,0 +1,201 @@
+// The current thread waits or sleeps (`begin_wait`, `sleep_current`).
+use object::store;
+use types::kernel::Kernel;
+use types::thread::Thread;
+use types::thread::ThreadOption;
+use types::thread::ThreadStatus;
+use types::thread::TickOption;
+use types::thread::WaitResult;
+use units::ObjectId;
+use units::Ticks;
+ghost use mathlib.Core.Path.{_≡_};
+ghost use Prim.Native.Nat.{_+_, _-_, _<_, _≤_};
+ghost use lib.ListN.{length, set};
+ghost use Rattle.sound.specs.View.{threadAt};
+ghost use Rattle.pass.specs.Timers.{saturatingAdd};
+ghost use Rattle.pass.specs.Waits as def;
+
+fn saturating_add(a: u64, b: u64) -> u64
+    ensures { λ r. ⌜ r ≡ saturatingAdd a b ⌝ }
+{
+    if 18446744073709551615 - a < b {
+        return 18446744073709551615;
+    }
+    a + b
+}
+
+fn wake_tick(timeout: TickOption, tick: u64) -> TickOption
+    ensures { λ r. ⌜ r ≡ def.wakeTick timeout tick ⌝ }
+{
+    match timeout {
+        TickOption::NoTick => TickOption::NoTick,
+        TickOption::SomeTick(d) => TickOption::SomeTick(Ticks(saturating_add(tick, d.0))),
+    }
+}
+
+fn waiting(t: Thread, l: [ObjectId; 8], n: u32, all: bool, wake: TickOption) -> Thread
+    ensures { λ r. ⌜ r ≡ def.waiting t l n all wake ⌝ }
+{
+    let since = t.running_since;
+    let address = t.wait_address;
+    let call = t.wait_syscall;
+    Thread {
+        status: ThreadStatus::WaitSync,
+        priority: t.priority,
+        entry: t.entry,
+        stack_top: t.stack_top,
+        tls: t.tls,
+        processor_id: t.processor_id,
+        wait_objects: l,
+        wait_count: n,
+        wait_all: all,
+        wakeup_at: wake,
+        running_since: since,
+        waited: t.waited,
+        wait_address: address,
+        wait_result: WaitResult::NoResult,
+        wait_syscall: call,
+        guest_id: t.guest_id,
+    }
+}
+
+fn put_waiting(
+    ts: [Thread; 32],
+    c: u32,
+    l: [ObjectId; 8],
+    n: u32,
+    all: bool,
+    wake: TickOption,
+) -> [Thread; 32]
+    ensures { λ r. ⌜ r ≡ set ts c (def.waiting (threadAt ts c) l n all wake) ⌝ }
+{
+    if 32 <= c {
+        return ts;
+    }
+    let i = c as usize;
+    let mut q = ts;
+    q[i] = waiting(q[i], l, n, all, wake);
+    q
+}
+
+fn begin_wait_at(
+    c: u32,
+    k: Kernel,
+    l: [ObjectId; 8],
+    n: u32,
+    all: bool,
+    timeout: TickOption,
+    tick: u64,
+) -> Kernel
+    ensures { λ r. ⌜ r ≡ def.beginWaitAs (ThreadOption.SomeThread c) k l n all timeout tick ⌝ }
+{
+    let ts = k.threads;
+    let before = k.objects;
+    let wake = wake_tick(timeout, tick);
+    let threads = put_waiting(ts, c, l, n, all, wake);
+    let objects = store::add_ref_list(before, l, n);
+    let mut q = k;
+    q.objects = objects;
+    q.threads = threads;
+    q
+}
+
+fn begin_wait_as(
+    current: ThreadOption,
+    k: Kernel,
+    l: [ObjectId; 8],
+    n: u32,
+    all: bool,
+    timeout: TickOption,
+    tick: u64,
+) -> Kernel
+    ensures { λ r. ⌜ r ≡ def.beginWaitAs current k l n all timeout tick ⌝ }
+{
+    match current {
+        ThreadOption::NoThread => k,
+        ThreadOption::SomeThread(c) => begin_wait_at(c, k, l, n, all, timeout, tick),
+    }
+}
+
+// On the first n of the list, which the thread holds while it waits.
+pub fn begin_wait(
+    k: Kernel,
+    l: [ObjectId; 8],
+    n: u32,
+    all: bool,
+    timeout: TickOption,
+    tick: u64,
+) -> Kernel
+    ensures { λ r. ⌜ r ≡ def.beginWait k l n all timeout tick ⌝ }
+{
+    let current = k.current_thread;
+    begin_wait_as(current, k, l, n, all, timeout, tick)
+}
+
+fn sleeping(t: Thread, wake: u64) -> Thread
+    ensures { λ r. ⌜ r ≡ def.sleeping t wake ⌝ }
+{
+    let c = thread::thread::clear_wait(t);
+    let list = c.wait_objects;
+    let since = c.running_since;
+    let address = c.wait_address;
+    let result = c.wait_result;
+    let call = c.wait_syscall;
+    Thread {
+        status: ThreadStatus::Sleeping,
+        priority: c.priority,
+        entry: c.entry,
+        stack_top: c.stack_top,
+        tls: c.tls,
+        processor_id: c.processor_id,
+        wait_objects: list,
+        wait_count: c.wait_count,
+        wait_all: c.wait_all,
+        wakeup_at: TickOption::SomeTick(Ticks(wake)),
+        running_since: since,
+        waited: c.waited,
+        wait_address: address,
+        wait_result: result,
+        wait_syscall: call,
+        guest_id: c.guest_id,
+    }
+}
+
+fn put_sleeping(ts: [Thread; 32], c: u32, wake: u64) -> [Thread; 32]
+    ensures { λ r. ⌜ r ≡ set ts c (def.sleeping (threadAt ts c) wake) ⌝ }
+{
+    if 32 <= c {
+        return ts;
+    }
+    let i = c as usize;
+    let mut q = ts;
+    q[i] = sleeping(q[i], wake);
+    q
+}
+
+fn sleep_at(c: u32, k: Kernel, ticks: u64, tick: u64) -> Kernel
+    ensures { λ r. ⌜ r ≡ def.sleepAs (ThreadOption.SomeThread c) k ticks tick ⌝ }
+{
+    let ts = k.threads;
+    let threads = put_sleeping(ts, c, saturating_add(tick, ticks));
+    let mut q = k;
+    q.threads = threads;
+    q
+}
+
+fn sleep_as(current: ThreadOption, k: Kernel, ticks: u64, tick: u64) -> Kernel
+    ensures { λ r. ⌜ r ≡ def.sleepAs current k ticks tick ⌝ }
+{
+    match current {
+        ThreadOption::NoThread => k,
+        ThreadOption::SomeThread(c) => sleep_at(c, k, ticks, tick),
+    }
+}
+
+// Result and call kind of an older wait stay.
+pub fn sleep_current(k: Kernel, ticks: u64, tick: u64) -> Kernel
+    ensures { λ r. ⌜ r ≡ def.sleepCurrent k ticks tick ⌝ }
+{
+    let current = k.current_thread;
+    sleep_as(current, k, ticks, tick)
+}
