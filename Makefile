@@ -17,7 +17,7 @@ KERNEL_LIB = $(PROVED)
 
 C = target/c
 DRIVER = oracle/target/debug/driver
-HOST = host check lent fresh_block made_block fresh_start next_event create_thread end_thread schedule
+HOST = host check lent fresh_block made_block fresh_start next_event create_thread end_thread schedule asks
 FLIPS = flips rules fresh_block
 
 all: host-test

@@ -28,6 +28,22 @@ static uint32_t schedule(void)
     return kernel_schedule(block, sizeof block, bank, sizeof bank, processor, sizeof processor, answer, KERNEL_SCHEDULE_LEN, 1u << 30);
 }
 
+static uint8_t handles[32];
+static uint32_t satisfied_now(void)
+{
+    return kernel_satisfied_now(block, sizeof block, handles, sizeof handles, answer, KERNEL_SATISFIED_NOW_LEN, 1, 0);
+}
+static uint32_t quiet_release(void) { return kernel_quiet_release(block, sizeof block, answer, KERNEL_QUIET_RELEASE_LEN, 0x10000, 0); }
+
+/* The last eight open handles. */
+static int last_handles(void)
+{
+    uint32_t count = get32(original, HANDLE_COUNT);
+    for (uint32_t i = 0; i < 8; i++)
+        put32(handles, 4 * i, count < 8 ? 0 : get32(original, handle_at(count - 8 + i) + HANDLE));
+    return 1;
+}
+
 static uint32_t ending;
 static uint32_t end_thread(void) { return kernel_end_thread(block, sizeof block, ending); }
 
@@ -57,6 +73,8 @@ static const struct export { const char *name; uint32_t (*call)(void); int chang
     {"kernel_fresh_start", fresh_start, 1, NULL},
     {"kernel_next_event", next_event, 0, NULL},
     {"kernel_schedule", schedule, 1, NULL},
+    {"kernel_satisfied_now", satisfied_now, 0, last_handles},
+    {"kernel_quiet_release", quiet_release, 0, NULL},
     {"kernel_end_thread", end_thread, 1, find_live},
     {"kernel_create_thread", create_thread, 1, make_room},
 };

@@ -25,6 +25,8 @@ extern "C" {
 #define KERNEL_NEXT_EVENT_LEN 16u
 #define KERNEL_CREATE_THREAD_LEN 4u
 #define KERNEL_SCHEDULE_LEN 4u
+#define KERNEL_SATISFIED_NOW_LEN 40u
+#define KERNEL_QUIET_RELEASE_LEN 12u
 
 /* Accepted. */
 #define KERNEL_DONE 0u
@@ -59,6 +61,18 @@ uint32_t kernel_create_thread(uint8_t *block, size_t block_len, uint8_t *bank, s
    host drops any exclusive reservation. */
 uint32_t kernel_schedule(uint8_t *block, size_t block_len, uint8_t *bank, size_t bank_len, uint8_t *processor,
                          size_t processor_len, uint8_t *answer, size_t answer_len, uint64_t tick);
+
+/* What a wait of the current thread on a list of handles, four bytes each, would find at once: word 1 if it is satisfied
+   and 0 if not, the index that the wait gives, then the eight object numbers, unused places 0. All 0 if it would not be
+   satisfied, if there is no current thread, if a timer is due by the tick, for more than eight handles, and for a handle
+   that is not open. wait_all is 0 for any of them, else all. */
+uint32_t kernel_satisfied_now(const uint8_t *block, size_t block_len, const uint8_t *handles, size_t handles_len,
+                              uint8_t *answer, size_t answer_len, uint32_t wait_all, uint64_t tick);
+
+/* What letting go of the mutex that a handle names would do, when no pass is needed after it: word 1, or 0 if there is
+   no such case, the object number, and word 1 if the mutex would become free, 0 if it only counts down. */
+uint32_t kernel_quiet_release(const uint8_t *block, size_t block_len, uint8_t *answer, size_t answer_len,
+                              uint32_t handle, uint64_t tick);
 
 /* Ends a thread: its wait ends, its mutexes are given back, and it is not current any more. KERNEL_NO_THREAD if
    there is no such thread or it is Dead. */

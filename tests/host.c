@@ -14,5 +14,6 @@ int main(void)
     test_create_thread();
     test_end_thread();
     test_schedule();
+    test_asks();
     return report();
 }

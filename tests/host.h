@@ -1,4 +1,4 @@
-/* One function for each export of the library. */
+/* One function for each export of the library; the two asks share one. */
 #ifndef HOST_H
 #define HOST_H
 
@@ -7,5 +7,6 @@ void test_next_event(void);
 void test_create_thread(void);
 void test_end_thread(void);
 void test_schedule(void);
+void test_asks(void);
 
 #endif

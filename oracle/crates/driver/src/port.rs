@@ -19,7 +19,7 @@ pub struct Operation {
     pub try_on: fn(&mut Rng) -> Option<Op>,
 }
 
-pub const OPERATIONS: [Operation; 5] = [FRESH_START, NEXT_EVENT, CREATE_THREAD, SCHEDULE, END_THREAD];
+pub const OPERATIONS: [Operation; 7] = [FRESH_START, NEXT_EVENT, SATISFIED_NOW, QUIET_RELEASE, CREATE_THREAD, SCHEDULE, END_THREAD];
 
 pub fn operation(op: &Op) -> Option<&'static Operation> {
     const LIST: &[Operation] = &OPERATIONS;
@@ -54,6 +54,17 @@ extern "C" {
         answer_len: usize,
         tick: u64,
     ) -> u32;
+    fn kernel_satisfied_now(
+        block: *const u8,
+        block_len: usize,
+        handles: *const u8,
+        handles_len: usize,
+        answer: *mut u8,
+        answer_len: usize,
+        wait_all: u32,
+        tick: u64,
+    ) -> u32;
+    fn kernel_quiet_release(block: *const u8, block_len: usize, answer: *mut u8, answer_len: usize, handle: u32, tick: u64) -> u32;
     fn kernel_end_thread(block: *mut u8, block_len: usize, thread: u32) -> u32;
 }
 
@@ -152,9 +163,55 @@ const SCHEDULE: Operation = Operation {
     },
     // ticks of every length, the last ones among them
     try_on: |r| {
-        let tick = if r.pct(5) { u64::MAX - r.below(3) } else { r.next() >> r.below(64) };
-        Some(Op::Pass { tick })
+        Some(Op::Pass { tick: any_tick(r) })
     },
+};
+
+/// a handle that may be open, or one of the two pseudo-handles.
+fn any_handle(r: &mut Rng) -> u32 { if r.pct(4) { 0xFFFF_8000 + r.below(2) as u32 } else { 0x10000 + r.below(24) as u32 } }
+
+fn any_tick(r: &mut Rng) -> u64 { if r.pct(5) { u64::MAX - r.below(3) } else { r.next() >> r.below(64) } }
+
+const SATISFIED_NOW: Operation = Operation {
+    name: "satisfied",
+    answer_len: 40,
+    starts_fresh: false,
+    reads_only: true,
+    is: |op| matches!(op, Op::Satisfied { .. }),
+    call: |op, lent, answer| {
+        let Op::Satisfied { handles, all, tick } = op else { unreachable!() };
+        let list: Vec<u8> = handles.iter().flat_map(|h| h.to_le_bytes()).collect();
+        let (block, wait_all) = (&lent.block, *all as u32);
+        unsafe { kernel_satisfied_now(block.as_ptr(), block.len(), list.as_ptr(), list.len(), answer.as_mut_ptr(), answer.len(), wait_all, *tick) }
+    },
+    answer: |out| {
+        let Out::Satisfied(found) = out else { unreachable!() };
+        let (objects, index) = found.unwrap_or_default();
+        let words = [found.is_some() as u32, index].into_iter().chain(objects);
+        words.flat_map(u32::to_le_bytes).collect()
+    },
+    try_on: |r| {
+        let n = if r.pct(5) { 9 } else { r.below(4) };
+        Some(Op::Satisfied { handles: (0..n).map(|_| any_handle(r)).collect(), all: r.pct(50), tick: any_tick(r) })
+    },
+};
+
+const QUIET_RELEASE: Operation = Operation {
+    name: "quiet",
+    answer_len: 12,
+    starts_fresh: false,
+    reads_only: true,
+    is: |op| matches!(op, Op::Quiet { .. }),
+    call: |op, lent, answer| {
+        let Op::Quiet { handle, tick } = op else { unreachable!() };
+        unsafe { kernel_quiet_release(lent.block.as_ptr(), lent.block.len(), answer.as_mut_ptr(), answer.len(), *handle, *tick) }
+    },
+    answer: |out| {
+        let Out::Quiet(found) = out else { unreachable!() };
+        let (object, frees) = found.unwrap_or_default();
+        [found.is_some() as u32, object, frees as u32].into_iter().flat_map(u32::to_le_bytes).collect()
+    },
+    try_on: |r| Some(Op::Quiet { handle: any_handle(r), tick: any_tick(r) }),
 };
 
 const END_THREAD: Operation = Operation {
