@@ -88,33 +88,34 @@ finding-refusal k = go (k .full or (k .objects .full or k .handles .full)) (k .o
     go false true n = refl
     go false false n = absurd (n refl)
 
-module _ (l : Lent) (own found : ℕ) (written : Lent) (a : Refusal own) (b : Refusal found) where
-  changed-as : (t s q r : Bool) → sound? (l .block) ≡ s → eqb own 0 ≡ q → eqb found 0 ≡ r → (s ≡ true → own ≡ 0 → found ≡ 0 → sound? (written .block) ≡ true)
-      → Kept l (pick t (pick s (pick q (pick r (back 0 written) (back found l)) (back own l)) (back 2 l)) (back 1 l))
+-- what an accepted operation gives has an accepted number
+module _ (l : Lent) (own found : ℕ) (result : Back) (a : Refusal own) (b : Refusal found) (n : accepted? (result .number) ≡ true) where
+  changed-as : (t s q r : Bool) → sound? (l .block) ≡ s → eqb own 0 ≡ q → eqb found 0 ≡ r → (s ≡ true → own ≡ 0 → found ≡ 0 → sound? (result .after .block) ≡ true)
+      → Kept l (pick t (pick s (pick q (pick r result (back found l)) (back own l)) (back 2 l)) (back 1 l))
   unfolding accepted? _or_
-  changed-as true true true true e f g h = record { sound = λ z. h refl (eqb-true own 0 f) (eqb-true found 0 g); same = λ z. false-true (sym z) }
+  changed-as true true true true e f g h = record { sound = λ z. h refl (eqb-true own 0 f) (eqb-true found 0 g); same = λ z. false-true (sym z ∙ n) }
   changed-as true true true false e f g h = refused l found (b (eqb-false found 0 g))
   changed-as true true false r e f g h = refused l own (a (eqb-false own 0 f))
   changed-as true false q r e f g h = record { sound = λ z. false-true z; same = λ z. refl }
   changed-as false s q r e f g h = record { sound = λ z. false-true z; same = λ z. refl }
 
-pub change-keeps : (t : Bool) (refusal : Kernel → ℕ) (work : Kernel → Kernel) (written : Kernel → Lent) (l : Lent) → ((k : Kernel) → Refusal (refusal k))
-    → (sound? (l .block) ≡ true → refusal (decBlock (l .block)) ≡ 0 → finding (work (decBlock (l .block))) ≡ 0 → sound? (written (decBlock (l .block)) .block) ≡ true)
-    → Kept l (change t refusal work written l)
+pub change-keeps : (t : Bool) (refusal : Kernel → ℕ) (work : Kernel → Kernel) (result : Kernel → Back) (l : Lent) → ((k : Kernel) → Refusal (refusal k)) → ((k : Kernel) → accepted? (result k .number) ≡ true)
+    → (sound? (l .block) ≡ true → refusal (decBlock (l .block)) ≡ 0 → finding (work (decBlock (l .block))) ≡ 0 → sound? (result (decBlock (l .block)) .after .block) ≡ true)
+    → Kept l (change t refusal work result l)
 unfolding change
-change-keeps t refusal work written l a h =
+change-keeps t refusal work result l a n h =
     let k : Kernel = decBlock (l .block) in
-    changed-as l (refusal k) (finding (work k)) (written k) (a k) (finding-refusal (work k)) t (sound? (l .block)) (eqb (refusal k) 0) (eqb (finding (work k)) 0) refl refl refl h
+    changed-as l (refusal k) (finding (work k)) (result k) (a k) (finding-refusal (work k)) (n k) t (sound? (l .block)) (eqb (refusal k) 0) (eqb (finding (work k)) 0) refl refl refl h
 
 -- ---- a thread is made
 pub createThread-keeps : (entry stack arg priority processor : ℕ) → entry < 4294967296 → stack < 4294967296 → processor < 4294967296
     → (l : Lent) → Kept l (createThread entry stack arg priority processor l)
-unfolding createThread
+unfolding createThread accepted? _or_
 createThread-keeps entry stack arg priority processor we ws wp l =
     change-keeps (eqb (length (l .block)) 16384 and (eqb (length (l .bank)) 6656 and eqb (length (l .answer)) 4)) (λ k. 0)
     (λ k. thread.createThread k entry stack priority processor)
-    (λ k. lent (encBlock (thread.createThread k entry stack priority processor)) (rowMade (l .bank) k entry stack arg) (l .processor) (l .window) (bytes 4 (thread.endedThread k))) l
-    (λ k n. absurd (n refl))
+    (λ k. back 0 (lent (encBlock (thread.createThread k entry stack priority processor)) (rowMade (l .bank) k entry stack arg) (l .processor) (l .window) (bytes 4 (thread.endedThread k)))) l
+    (λ k n. absurd (n refl)) (λ k. refl)
     (λ s r f.
     let k : Kernel = decBlock (l .block) in
     let m : Kernel = thread.createThread k entry stack priority processor in
@@ -122,10 +123,10 @@ createThread-keeps entry stack arg priority processor we ws wp l =
 
 -- ---- a pass
 pub schedule-keeps : (tick : ℕ) → tick < 18446744073709551616 → (l : Lent) → Kept l (schedule tick l)
-unfolding schedule
+unfolding schedule accepted? _or_
 schedule-keeps tick h l =
     change-keeps (eqb (length (l .block)) 16384 and (eqb (length (l .bank)) 6656 and (eqb (length (l .processor)) 208 and eqb (length (l .answer)) 4))) (λ k. 0)
-    (λ k. pass.schedule k tick .kernel) (λ k. passWritten l (pass.schedule k tick)) l (λ k n. absurd (n refl))
+    (λ k. pass.schedule k tick .kernel) (λ k. back 0 (passWritten l (pass.schedule k tick))) l (λ k n. absurd (n refl)) (λ k. refl)
     (λ s r f.
     let k : Kernel = decBlock (l .block) in
     let m : Kernel = pass.schedule k tick .kernel in
@@ -150,7 +151,7 @@ end-exists t k e = go (ltb t (k .«thread_count»)) refl e
     go false f z = absurd (omega arith)
 
 pub endThread-keeps : (t : ℕ) (l : Lent) → Kept l (endThread t l)
-unfolding endThread
+unfolding endThread accepted? _or_
 endThread-keeps t l =
-    change-keeps (eqb (length (l .block)) 16384) (endRefusal t) (λ k. thread.endThread k t) (λ k. withBlock l (encBlock (thread.endThread k t))) l (end-refusal t)
+    change-keeps (eqb (length (l .block)) 16384) (endRefusal t) (λ k. thread.endThread k t) (λ k. back 0 (withBlock l (encBlock (thread.endThread k t)))) l (end-refusal t) (λ k. refl)
     (λ s r f. encoded-sound (thread.endThread (decBlock (l .block)) t) (endThread-sound (decBlock (l .block)) t (end-exists t (decBlock (l .block)) r) (t-block (l .block) .yes s .state)))

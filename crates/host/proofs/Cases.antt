@@ -18,7 +18,7 @@ use Rattle.sound.specs.View.{noThread, threadAt}
 use Rattle.sound.specs.Sound.{state?}
 use Rattle.sound.specs.Question.{sound?}
 use Rattle.thread.specs.Threads.{createThread, endedThread}
-use Rattle.host.specs.Lent.{Lent, withAnswer, back}
+use Rattle.host.specs.Lent.{Lent, withAnswer, Back, back}
 use Rattle.host.specs.Operations.{outOfHandles?, inspect, finding, change}
 
 module _ (lengths : Bool) (look : Kernel → List ℕ) (l : Lent) where
@@ -45,8 +45,8 @@ module _ (lengths : Bool) (look : Kernel → List ℕ) (l : Lent) where
       inspect-0 z = rw (e, sound-is, h, ← f, ← q, z)
 
 -- ---- an operation that changes the block
-module _ (lengths : Bool) (refusal : Kernel → ℕ) (work : Kernel → Kernel) (written : Kernel → Lent) (l : Lent) where
-  pub change-1 : lengths ≡ false → back 1 l ≡ change lengths refusal work written l
+module _ (lengths : Bool) (refusal : Kernel → ℕ) (work : Kernel → Kernel) (result : Kernel → Back) (l : Lent) where
+  pub change-1 : lengths ≡ false → back 1 l ≡ change lengths refusal work result l
   unfolding change
   change-1 e = rw e
 
@@ -55,21 +55,21 @@ module _ (lengths : Bool) (refusal : Kernel → ℕ) (work : Kernel → Kernel) 
     unfolding sound?
     asked = rw (← f) (sym g)
 
-    pub change-2 : r ≡ false → back 2 l ≡ change lengths refusal work written l
+    pub change-2 : r ≡ false → back 2 l ≡ change lengths refusal work result l
     unfolding change
     change-2 h = rw (e, asked, h)
 
     module _ (h : r ≡ true) (n : ℕ) (q : n ≡ refusal k) where
-      pub change-own : (n ≡ 0 → ⊥) → back n l ≡ change lengths refusal work written l
+      pub change-own : (n ≡ 0 → ⊥) → back n l ≡ change lengths refusal work result l
       unfolding change
       change-own z = rw (e, asked, h, ← f, ← q, ne-eqb n 0 z)
 
       module _ (z : n ≡ 0) (m : ℕ) (v : m ≡ finding (work k)) where
-        pub change-found : (m ≡ 0 → ⊥) → back m l ≡ change lengths refusal work written l
+        pub change-found : (m ≡ 0 → ⊥) → back m l ≡ change lengths refusal work result l
         unfolding change
         change-found w = rw (e, asked, h, ← f, ← q, eq-eqb n 0 z, ← v, ne-eqb m 0 w)
 
-        pub change-0 : m ≡ 0 → back 0 (written k) ≡ change lengths refusal work written l
+        pub change-0 : m ≡ 0 → result k ≡ change lengths refusal work result l
         unfolding change
         change-0 w = rw (e, asked, h, ← f, ← q, eq-eqb n 0 z, ← v, eq-eqb m 0 w)
 

@@ -65,13 +65,13 @@ finding k =
     pick (k .full or (k .objects .full or k .handles .full)) 7
     (pick (k .overflow or (k .objects .overflow or (k .handles .overflow or outOfHandles? k))) 8 0)
 
--- the operation's own refusal is 0 for none; it is looked for before the work is done
-unfoldable pub change : Bool → (Kernel → ℕ) → (Kernel → Kernel) → (Kernel → Lent) → Lent → Back
-change lengths refusal work written l =
+-- the operation's own refusal is 0 for none; it is looked for before the work is done. The result is what an accepted one gives
+unfoldable pub change : Bool → (Kernel → ℕ) → (Kernel → Kernel) → (Kernel → Back) → Lent → Back
+change lengths refusal work result l =
     pick lengths
     (pick (sound? (l .block))
     (pick (eqb (refusal (decBlock (l .block))) 0)
-    (pick (eqb (finding (work (decBlock (l .block)))) 0) (back 0 (written (decBlock (l .block)))) (back (finding (work (decBlock (l .block)))) l))
+    (pick (eqb (finding (work (decBlock (l .block)))) 0) (result (decBlock (l .block))) (back (finding (work (decBlock (l .block)))) l))
     (back (refusal (decBlock (l .block))) l))
     (back 2 l))
     (back 1 l)
@@ -82,7 +82,7 @@ endRefusal t k = pick (ltb t (k .«thread_count»)) (pick (isDead (threadAt (k .
 
 unfoldable pub endThread : ℕ → Lent → Back
 endThread t l =
-    change (eqb (length (l .block)) 16384) (endRefusal t) (λ k. thread.endThread k t) (λ k. withBlock l (encBlock (thread.endThread k t))) l
+    change (eqb (length (l .block)) 16384) (endRefusal t) (λ k. thread.endThread k t) (λ k. back 0 (withBlock l (encBlock (thread.endThread k t)))) l
 
 -- the new thread's row of the bank; its words are the state's default status word and the thread's TLS slot
 abbrev pub rowMade : List ℕ → Kernel → ℕ → ℕ → ℕ → List ℕ
@@ -93,7 +93,7 @@ unfoldable pub createThread : ℕ → ℕ → ℕ → ℕ → ℕ → Lent → B
 createThread entry stack arg priority processor l =
     change (eqb (length (l .block)) 16384 and (eqb (length (l .bank)) 6656 and eqb (length (l .answer)) 4)) (λ k. 0)
     (λ k. thread.createThread k entry stack priority processor)
-    (λ k. lent (encBlock (thread.createThread k entry stack priority processor)) (rowMade (l .bank) k entry stack arg) (l .processor) (l .window) (bytes 4 (thread.endedThread k))) l
+    (λ k. back 0 (lent (encBlock (thread.createThread k entry stack priority processor)) (rowMade (l .bank) k entry stack arg) (l .processor) (l .window) (bytes 4 (thread.endedThread k)))) l
 
 -- ---- a pass
 -- a context into a thread's row of the bank; a number past the rows has none
@@ -116,7 +116,7 @@ passWritten l p =
 unfoldable pub schedule : ℕ → Lent → Back
 schedule tick l =
     change (eqb (length (l .block)) 16384 and (eqb (length (l .bank)) 6656 and (eqb (length (l .processor)) 208 and eqb (length (l .answer)) 4))) (λ k. 0)
-    (λ k. pass.schedule k tick .kernel) (λ k. passWritten l (pass.schedule k tick)) l
+    (λ k. pass.schedule k tick .kernel) (λ k. back 0 (passWritten l (pass.schedule k tick))) l
 
 -- ---- what a wait would find
 -- the handles of a list, four bytes each

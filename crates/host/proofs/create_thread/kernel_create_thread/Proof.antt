@@ -7,7 +7,7 @@ use Rattle.codec.specs.Bytes.{bytes}
 use Rattle.types.specs.declared.kernel.Kernel.{Kernel}
 use Rattle.block.specs.Block.{encBlock}
 use Rattle.thread.specs.Threads.{createThread, endedThread}
-use Rattle.host.specs.Lent.{Lent, lent}
+use Rattle.host.specs.Lent.{Lent, lent, Back, back}
 use Rattle.host.specs.Operations.{finding, rowMade}
 use Rattle.host.specs.Operations as operation
 use Rattle.host.proofs.Cases.{change-1, change-2, change-found, change-0, made-place}
@@ -28,29 +28,29 @@ use Rattle.thread.proofs.places.tls_slot.Reads as tls-slot-reads
 abbrev work : ℕ → ℕ → ℕ → ℕ → Kernel → Kernel
 work entry stack priority processor = λ k. createThread k entry stack priority processor
 
-abbrev written : Lent → ℕ → ℕ → ℕ → ℕ → ℕ → Kernel → Lent
-written l entry stack arg priority processor = λ k. lent (encBlock (createThread k entry stack priority processor)) (rowMade (l .bank) k entry stack arg) (l .processor) (l .window) (bytes 4 (endedThread k))
+abbrev result : Lent → ℕ → ℕ → ℕ → ℕ → ℕ → Kernel → Back
+result l entry stack arg priority processor = λ k. back 0 (lent (encBlock (createThread k entry stack priority processor)) (rowMade (l .bank) k entry stack arg) (l .processor) (l .window) (bytes 4 (endedThread k)))
 
 returns : tie.Need-returns
 unfolding operation.createThread
 returns c =
     let a = c .before .before .before .before .args in
     let l = lent (a .block .now) (a .bank .now) [] [] (a .answer .now) in
-    change-1 _ (λ k. 0) (work (a .entry) (a .stack-top) (a .priority) (a .processor-id)) (written l (a .entry) (a .stack-top) (a .arg) (a .priority) (a .processor-id)) l (and-no _ _ (ne-eqb _ 16384 (c .if1 .taken)))
+    change-1 _ (λ k. 0) (work (a .entry) (a .stack-top) (a .priority) (a .processor-id)) (result l (a .entry) (a .stack-top) (a .arg) (a .priority) (a .processor-id)) l (and-no _ _ (ne-eqb _ 16384 (c .if1 .taken)))
 
 returns-2 : tie.Need-returns-2
 unfolding operation.createThread
 returns-2 c =
     let a = c .before .before .before .before .before .args in
     let l = lent (a .block .now) (a .bank .now) [] [] (a .answer .now) in
-    change-1 _ (λ k. 0) (work (a .entry) (a .stack-top) (a .priority) (a .processor-id)) (written l (a .entry) (a .stack-top) (a .arg) (a .priority) (a .processor-id)) l (and-yes _ _ (eq-eqb _ 16384 (c .before .if1 .left)) ∙ and-no _ _ (ne-eqb _ 6656 (c .if2 .taken)))
+    change-1 _ (λ k. 0) (work (a .entry) (a .stack-top) (a .priority) (a .processor-id)) (result l (a .entry) (a .stack-top) (a .arg) (a .priority) (a .processor-id)) l (and-yes _ _ (eq-eqb _ 16384 (c .before .if1 .left)) ∙ and-no _ _ (ne-eqb _ 6656 (c .if2 .taken)))
 
 returns-3 : tie.Need-returns-3
 unfolding operation.createThread
 returns-3 c =
     let a = c .before .before .before .before .before .before .args in
     let l = lent (a .block .now) (a .bank .now) [] [] (a .answer .now) in
-    change-1 _ (λ k. 0) (work (a .entry) (a .stack-top) (a .priority) (a .processor-id)) (written l (a .entry) (a .stack-top) (a .arg) (a .priority) (a .processor-id)) l (and-yes _ _ (eq-eqb _ 16384 (c .before .before .if1 .left)) ∙ (and-yes _ _ (eq-eqb _ 6656 (c .before .if2 .left)) ∙ ne-eqb _ 4 (c .if3 .taken)))
+    change-1 _ (λ k. 0) (work (a .entry) (a .stack-top) (a .priority) (a .processor-id)) (result l (a .entry) (a .stack-top) (a .arg) (a .priority) (a .processor-id)) l (and-yes _ _ (eq-eqb _ 16384 (c .before .before .if1 .left)) ∙ (and-yes _ _ (eq-eqb _ 6656 (c .before .if2 .left)) ∙ ne-eqb _ 4 (c .if3 .taken)))
 
 decode-requires : tie.Need-decode-requires
 decode-requires c κs = search needs
@@ -69,7 +69,7 @@ returns-4 c =
     let q = d .before .before in
     let a = c .before .before .before .before .before .before .before .before .before .before .before .args in
     let l = lent (a .block .now) (a .bank .now) [] [] (a .answer .now) in
-    change-2 _ (λ k. 0) (work (a .entry) (a .stack-top) (a .priority) (a .processor-id)) (written l (a .entry) (a .stack-top) (a .arg) (a .priority) (a .processor-id)) l (true-and _ _ (eq-eqb _ 16384 (q .before .before .if1 .left)) (true-and _ _ (eq-eqb _ 6656 (q .before .if2 .left)) (eq-eqb _ 4 (q .if3 .left)))) _ (d .decode .ensures) _ (o .block-ok .ensures) (not-true _ (c .if4 .taken))
+    change-2 _ (λ k. 0) (work (a .entry) (a .stack-top) (a .priority) (a .processor-id)) (result l (a .entry) (a .stack-top) (a .arg) (a .priority) (a .processor-id)) l (true-and _ _ (eq-eqb _ 16384 (q .before .before .if1 .left)) (true-and _ _ (eq-eqb _ 6656 (q .before .if2 .left)) (eq-eqb _ 4 (q .if3 .left)))) _ (d .decode .ensures) _ (o .block-ok .ensures) (not-true _ (c .if4 .taken))
 
 ended-thread-requires : tie.Need-ended-thread-requires
 ended-thread-requires c κs = search needs
@@ -97,7 +97,7 @@ returns-5 c =
     let q = d .before .before in
     let a = c .before .before .before .before .before .before .before .before .before .before .before .before .before .before .before .before .args in
     let l = lent (a .block .now) (a .bank .now) [] [] (a .answer .now) in
-    change-found _ (λ k. 0) (work (a .entry) (a .stack-top) (a .priority) (a .processor-id)) (written l (a .entry) (a .stack-top) (a .arg) (a .priority) (a .processor-id)) l (true-and _ _ (eq-eqb _ 16384 (q .before .before .if1 .left)) (true-and _ _ (eq-eqb _ 6656 (q .before .if2 .left)) (eq-eqb _ 4 (q .if3 .left)))) _ (d .decode .ensures) _ (o .block-ok .ensures) (not-false _ (i .if4 .left)) 0 refl refl _ (f .first-finding .ensures ∙ ap finding (m .create-thread .ensures)) (c .if5 .taken)
+    change-found _ (λ k. 0) (work (a .entry) (a .stack-top) (a .priority) (a .processor-id)) (result l (a .entry) (a .stack-top) (a .arg) (a .priority) (a .processor-id)) l (true-and _ _ (eq-eqb _ 16384 (q .before .before .if1 .left)) (true-and _ _ (eq-eqb _ 6656 (q .before .if2 .left)) (eq-eqb _ 4 (q .if3 .left)))) _ (d .decode .ensures) _ (o .block-ok .ensures) (not-false _ (i .if4 .left)) 0 refl refl _ (f .first-finding .ensures ∙ ap finding (m .create-thread .ensures)) (c .if5 .taken)
 
 encode-requires : tie.Need-encode-requires
 encode-requires c κs = search needs
@@ -150,7 +150,7 @@ returns-6 c =
     let a = c .before .before .before .before .before .before .before .before .before .before .before .before .before .before .before .before .before .before .before .before .before .before .before .before .before .before .before .args in
     let l = lent (a .block .now) (a .bank .now) [] [] (a .answer .now) in
     rw (e .encode .ensures, w .put-made .ensures .0, w .put-made .ensures .1, m .create-thread .ensures)
-    (change-0 _ (λ k. 0) (work (a .entry) (a .stack-top) (a .priority) (a .processor-id)) (written l (a .entry) (a .stack-top) (a .arg) (a .priority) (a .processor-id)) l (true-and _ _ (eq-eqb _ 16384 (q .before .before .if1 .left)) (true-and _ _ (eq-eqb _ 6656 (q .before .if2 .left)) (eq-eqb _ 4 (q .if3 .left)))) _ (d .decode .ensures) _ (o .block-ok .ensures) (not-false _ (i .if4 .left)) 0 refl refl _ (f .first-finding .ensures ∙ ap finding (m .create-thread .ensures)) (g .if5 .left))
+    (change-0 _ (λ k. 0) (work (a .entry) (a .stack-top) (a .priority) (a .processor-id)) (result l (a .entry) (a .stack-top) (a .arg) (a .priority) (a .processor-id)) l (true-and _ _ (eq-eqb _ 16384 (q .before .before .if1 .left)) (true-and _ _ (eq-eqb _ 6656 (q .before .if2 .left)) (eq-eqb _ 4 (q .if3 .left)))) _ (d .decode .ensures) _ (o .block-ok .ensures) (not-false _ (i .if4 .left)) 0 refl refl _ (f .first-finding .ensures ∙ ap finding (m .create-thread .ensures)) (g .if5 .left))
 
 pub kernel-create-thread-spec : {M : Type 1} → statement M
 kernel-create-thread-spec =

@@ -3,7 +3,7 @@ use borrow.Author.Tests.{eq-eqb, ne-eqb, not-true, not-false}
 use mathlib.Core.List.{[]}
 use Rattle.block.specs.Block.{encBlock}
 use Rattle.thread.specs.Threads.{endThread}
-use Rattle.host.specs.Lent.{lent, withBlock}
+use Rattle.host.specs.Lent.{lent, withBlock, back}
 use Rattle.host.specs.Operations.{finding, endRefusal}
 use Rattle.host.specs.Operations as operation
 use Rattle.host.proofs.Cases.{change-1, change-2, change-own, change-found, change-0}
@@ -24,7 +24,7 @@ unfolding operation.endThread
 returns c =
     let a = c .before .before .args in
     let l = lent (a .block .now) [] [] [] [] in
-    change-1 _ (endRefusal (a .id)) (λ k. endThread k (a .id)) (λ k. withBlock l (encBlock (endThread k (a .id)))) l (ne-eqb _ 16384 (c .if1 .taken))
+    change-1 _ (endRefusal (a .id)) (λ k. endThread k (a .id)) (λ k. back 0 (withBlock l (encBlock (endThread k (a .id))))) l (ne-eqb _ 16384 (c .if1 .taken))
 
 decode-requires : tie.Need-decode-requires
 decode-requires c κs = search needs
@@ -40,7 +40,7 @@ unfolding operation.endThread
 returns-2 c =
     let a = c .before .before .before .before .before .before .before .args in
     let l = lent (a .block .now) [] [] [] [] in
-    change-2 _ (endRefusal (a .id)) (λ k. endThread k (a .id)) (λ k. withBlock l (encBlock (endThread k (a .id)))) l (eq-eqb _ 16384 (c .before .before .before .before .before .if1 .left)) _ (c .before .before .before .decode .ensures) _ (c .before .block-ok .ensures) (not-true _ (c .if2 .taken))
+    change-2 _ (endRefusal (a .id)) (λ k. endThread k (a .id)) (λ k. back 0 (withBlock l (encBlock (endThread k (a .id))))) l (eq-eqb _ 16384 (c .before .before .before .before .before .if1 .left)) _ (c .before .before .before .decode .ensures) _ (c .before .block-ok .ensures) (not-true _ (c .if2 .taken))
 
 end-refusal-requires : tie.Need-end-refusal-requires
 end-refusal-requires c κs = search needs
@@ -53,7 +53,7 @@ unfolding operation.endThread
 returns-3 c =
     let a = c .before .before .before .before .before .before .before .before .before .args in
     let l = lent (a .block .now) [] [] [] [] in
-    change-own _ (endRefusal (a .id)) (λ k. endThread k (a .id)) (λ k. withBlock l (encBlock (endThread k (a .id)))) l (eq-eqb _ 16384 (c .before .before .before .before .before .before .before .if1 .left)) _ (c .before .before .before .before .before .decode .ensures) _ (c .before .before .before .block-ok .ensures) (not-false _ (c .before .before .if2 .left)) _ (c .before .end-refusal .ensures) (c .if3 .taken)
+    change-own _ (endRefusal (a .id)) (λ k. endThread k (a .id)) (λ k. back 0 (withBlock l (encBlock (endThread k (a .id))))) l (eq-eqb _ 16384 (c .before .before .before .before .before .before .before .if1 .left)) _ (c .before .before .before .before .before .decode .ensures) _ (c .before .before .before .block-ok .ensures) (not-false _ (c .before .before .if2 .left)) _ (c .before .end-refusal .ensures) (c .if3 .taken)
 
 end-thread-requires : tie.Need-end-thread-requires
 end-thread-requires c κs = search needs
@@ -69,7 +69,7 @@ unfolding operation.endThread
 returns-4 c =
     let a = c .before .before .before .before .before .before .before .before .before .before .before .before .args in
     let l = lent (a .block .now) [] [] [] [] in
-    change-found _ (endRefusal (a .id)) (λ k. endThread k (a .id)) (λ k. withBlock l (encBlock (endThread k (a .id)))) l (eq-eqb _ 16384 (c .before .before .before .before .before .before .before .before .before .before .if1 .left)) _ (c .before .before .before .before .before .before .before .before .decode .ensures) _ (c .before .before .before .before .before .before .block-ok .ensures) (not-false _ (c .before .before .before .before .before .if2 .left)) _ (c .before .before .before .before .end-refusal .ensures) (c .before .before .before .if3 .left) _ (c .before .first-finding .ensures ∙ ap finding (c .before .before .end-thread .ensures)) (c .if4 .taken)
+    change-found _ (endRefusal (a .id)) (λ k. endThread k (a .id)) (λ k. back 0 (withBlock l (encBlock (endThread k (a .id))))) l (eq-eqb _ 16384 (c .before .before .before .before .before .before .before .before .before .before .if1 .left)) _ (c .before .before .before .before .before .before .before .before .decode .ensures) _ (c .before .before .before .before .before .before .block-ok .ensures) (not-false _ (c .before .before .before .before .before .if2 .left)) _ (c .before .before .before .before .end-refusal .ensures) (c .before .before .before .if3 .left) _ (c .before .first-finding .ensures ∙ ap finding (c .before .before .end-thread .ensures)) (c .if4 .taken)
 
 encode-requires : tie.Need-encode-requires
 encode-requires c κs = search needs
@@ -82,7 +82,7 @@ unfolding operation.endThread
 returns-5 c =
     let a = c .before .before .before .before .before .before .before .before .before .before .before .before .before .before .before .before .args in
     let l = lent (a .block .now) [] [] [] [] in
-    rw (c .before .before .encode .ensures, c .before .before .before .before .before .before .end-thread .ensures) (change-0 _ (endRefusal (a .id)) (λ k. endThread k (a .id)) (λ k. withBlock l (encBlock (endThread k (a .id)))) l (eq-eqb _ 16384 (c .before .before .before .before .before .before .before .before .before .before .before .before .before .before .if1 .left)) _ (c .before .before .before .before .before .before .before .before .before .before .before .before .decode .ensures) _ (c .before .before .before .before .before .before .before .before .before .before .block-ok .ensures) (not-false _ (c .before .before .before .before .before .before .before .before .before .if2 .left)) _ (c .before .before .before .before .before .before .before .before .end-refusal .ensures) (c .before .before .before .before .before .before .before .if3 .left) _ (c .before .before .before .before .before .first-finding .ensures ∙ ap finding (c .before .before .before .before .before .before .end-thread .ensures)) (c .before .before .before .before .if4 .left))
+    rw (c .before .before .encode .ensures, c .before .before .before .before .before .before .end-thread .ensures) (change-0 _ (endRefusal (a .id)) (λ k. endThread k (a .id)) (λ k. back 0 (withBlock l (encBlock (endThread k (a .id))))) l (eq-eqb _ 16384 (c .before .before .before .before .before .before .before .before .before .before .before .before .before .before .if1 .left)) _ (c .before .before .before .before .before .before .before .before .before .before .before .before .decode .ensures) _ (c .before .before .before .before .before .before .before .before .before .before .block-ok .ensures) (not-false _ (c .before .before .before .before .before .before .before .before .before .if2 .left)) _ (c .before .before .before .before .before .before .before .before .end-refusal .ensures) (c .before .before .before .before .before .before .before .if3 .left) _ (c .before .before .before .before .before .first-finding .ensures ∙ ap finding (c .before .before .before .before .before .before .end-thread .ensures)) (c .before .before .before .before .if4 .left))
 
 pub kernel-end-thread-spec : {M : Type 1} → statement M
 kernel-end-thread-spec =

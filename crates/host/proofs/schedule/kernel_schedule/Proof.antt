@@ -5,7 +5,7 @@ use mathlib.Core.List.{[]}
 use Rattle.laws.specs.Logic.{_and_, and-no, and-yes, true-and}
 use Rattle.pass.specs.declared.Passed.{Passed}
 use Rattle.pass.specs.Schedule.{schedule}
-use Rattle.host.specs.Lent.{lent}
+use Rattle.host.specs.Lent.{lent, back}
 use Rattle.host.specs.Operations.{finding, passWritten}
 use Rattle.host.specs.Operations as operation
 use Rattle.host.proofs.Cases.{change-1, change-2, change-found, change-0}
@@ -26,28 +26,28 @@ unfolding operation.schedule
 returns c =
     let a = c .before .before .before .before .before .args in
     let l = lent (a .block .now) (a .bank .now) (a .processor .now) [] (a .answer .now) in
-    change-1 _ (λ k. 0) (λ k. schedule k (a .tick) .kernel) (λ k. passWritten l (schedule k (a .tick))) l (and-no _ _ (ne-eqb _ 16384 (c .if1 .taken)))
+    change-1 _ (λ k. 0) (λ k. schedule k (a .tick) .kernel) (λ k. back 0 (passWritten l (schedule k (a .tick)))) l (and-no _ _ (ne-eqb _ 16384 (c .if1 .taken)))
 
 returns-2 : tie.Need-returns-2
 unfolding operation.schedule
 returns-2 c =
     let a = c .before .before .before .before .before .before .args in
     let l = lent (a .block .now) (a .bank .now) (a .processor .now) [] (a .answer .now) in
-    change-1 _ (λ k. 0) (λ k. schedule k (a .tick) .kernel) (λ k. passWritten l (schedule k (a .tick))) l (and-yes _ _ (eq-eqb _ 16384 (c .before .if1 .left)) ∙ and-no _ _ (ne-eqb _ 6656 (c .if2 .taken)))
+    change-1 _ (λ k. 0) (λ k. schedule k (a .tick) .kernel) (λ k. back 0 (passWritten l (schedule k (a .tick)))) l (and-yes _ _ (eq-eqb _ 16384 (c .before .if1 .left)) ∙ and-no _ _ (ne-eqb _ 6656 (c .if2 .taken)))
 
 returns-3 : tie.Need-returns-3
 unfolding operation.schedule
 returns-3 c =
     let a = c .before .before .before .before .before .before .before .args in
     let l = lent (a .block .now) (a .bank .now) (a .processor .now) [] (a .answer .now) in
-    change-1 _ (λ k. 0) (λ k. schedule k (a .tick) .kernel) (λ k. passWritten l (schedule k (a .tick))) l (and-yes _ _ (eq-eqb _ 16384 (c .before .before .if1 .left)) ∙ (and-yes _ _ (eq-eqb _ 6656 (c .before .if2 .left)) ∙ and-no _ _ (ne-eqb _ 208 (c .if3 .taken))))
+    change-1 _ (λ k. 0) (λ k. schedule k (a .tick) .kernel) (λ k. back 0 (passWritten l (schedule k (a .tick)))) l (and-yes _ _ (eq-eqb _ 16384 (c .before .before .if1 .left)) ∙ (and-yes _ _ (eq-eqb _ 6656 (c .before .if2 .left)) ∙ and-no _ _ (ne-eqb _ 208 (c .if3 .taken))))
 
 returns-4 : tie.Need-returns-4
 unfolding operation.schedule
 returns-4 c =
     let a = c .before .before .before .before .before .before .before .before .args in
     let l = lent (a .block .now) (a .bank .now) (a .processor .now) [] (a .answer .now) in
-    change-1 _ (λ k. 0) (λ k. schedule k (a .tick) .kernel) (λ k. passWritten l (schedule k (a .tick))) l (and-yes _ _ (eq-eqb _ 16384 (c .before .before .before .if1 .left)) ∙ (and-yes _ _ (eq-eqb _ 6656 (c .before .before .if2 .left)) ∙ (and-yes _ _ (eq-eqb _ 208 (c .before .if3 .left)) ∙ ne-eqb _ 4 (c .if4 .taken))))
+    change-1 _ (λ k. 0) (λ k. schedule k (a .tick) .kernel) (λ k. back 0 (passWritten l (schedule k (a .tick)))) l (and-yes _ _ (eq-eqb _ 16384 (c .before .before .before .if1 .left)) ∙ (and-yes _ _ (eq-eqb _ 6656 (c .before .before .if2 .left)) ∙ (and-yes _ _ (eq-eqb _ 208 (c .before .if3 .left)) ∙ ne-eqb _ 4 (c .if4 .taken))))
 
 decode-requires : tie.Need-decode-requires
 decode-requires c κs = search needs
@@ -66,7 +66,7 @@ returns-5 c =
     let q = d .before .before in
     let a = c .before .before .before .before .before .before .before .before .before .before .before .before .before .args in
     let l = lent (a .block .now) (a .bank .now) (a .processor .now) [] (a .answer .now) in
-    change-2 _ (λ k. 0) (λ k. schedule k (a .tick) .kernel) (λ k. passWritten l (schedule k (a .tick))) l (true-and _ _ (eq-eqb _ 16384 (q .before .before .before .if1 .left)) (true-and _ _ (eq-eqb _ 6656 (q .before .before .if2 .left)) (true-and _ _ (eq-eqb _ 208 (q .before .if3 .left)) (eq-eqb _ 4 (q .if4 .left))))) _ (d .decode .ensures) _ (o .block-ok .ensures) (not-true _ (c .if5 .taken))
+    change-2 _ (λ k. 0) (λ k. schedule k (a .tick) .kernel) (λ k. back 0 (passWritten l (schedule k (a .tick)))) l (true-and _ _ (eq-eqb _ 16384 (q .before .before .before .if1 .left)) (true-and _ _ (eq-eqb _ 6656 (q .before .before .if2 .left)) (true-and _ _ (eq-eqb _ 208 (q .before .if3 .left)) (eq-eqb _ 4 (q .if4 .left))))) _ (d .decode .ensures) _ (o .block-ok .ensures) (not-true _ (c .if5 .taken))
 
 schedule-requires : tie.Need-schedule-requires
 schedule-requires c κs = search needs
@@ -88,7 +88,7 @@ returns-6 c =
     let q = d .before .before in
     let a = c .before .before .before .before .before .before .before .before .before .before .before .before .before .before .before .before .before .args in
     let l = lent (a .block .now) (a .bank .now) (a .processor .now) [] (a .answer .now) in
-    change-found _ (λ k. 0) (λ k. schedule k (a .tick) .kernel) (λ k. passWritten l (schedule k (a .tick))) l
+    change-found _ (λ k. 0) (λ k. schedule k (a .tick) .kernel) (λ k. back 0 (passWritten l (schedule k (a .tick)))) l
     (true-and _ _ (eq-eqb _ 16384 (q .before .before .before .if1 .left)) (true-and _ _ (eq-eqb _ 6656 (q .before .before .if2 .left)) (true-and _ _ (eq-eqb _ 208 (q .before .if3 .left)) (eq-eqb _ 4 (q .if4 .left))))) _ (d .decode .ensures) _ (o .block-ok .ensures) (not-false _ (i .if5 .left)) 0 refl refl _ (f .first-finding .ensures ∙ ap (λ (p : Passed). finding (p .kernel)) (m .schedule .ensures)) (c .if6 .taken)
 
 encode-requires : tie.Need-encode-requires
@@ -124,7 +124,7 @@ returns-7 c =
     let a = c .before .before .before .before .before .before .before .before .before .before .before .before .before .before .before .before .before .before .before .before .before .before .before .before .before .before .before .before .before .before .before .args in
     let l = lent (a .block .now) (a .bank .now) (a .processor .now) [] (a .answer .now) in
     rw (w .put-passed .ensures .1 .1, w .put-passed .ensures .1 .0, w .put-passed .ensures .0, e .encode .ensures, m .schedule .ensures)
-    (change-0 _ (λ k. 0) (λ k. schedule k (a .tick) .kernel) (λ k. passWritten l (schedule k (a .tick))) l
+    (change-0 _ (λ k. 0) (λ k. schedule k (a .tick) .kernel) (λ k. back 0 (passWritten l (schedule k (a .tick)))) l
     (true-and _ _ (eq-eqb _ 16384 (q .before .before .before .if1 .left)) (true-and _ _ (eq-eqb _ 6656 (q .before .before .if2 .left)) (true-and _ _ (eq-eqb _ 208 (q .before .if3 .left)) (eq-eqb _ 4 (q .if4 .left))))) _ (d .decode .ensures) _ (o .block-ok .ensures) (not-false _ (i .if5 .left)) 0 refl refl _ (f .first-finding .ensures ∙ ap (λ (p : Passed). finding (p .kernel)) (m .schedule .ensures)) (g .if6 .left))
 
 pub kernel-schedule-spec : {M : Type 1} → statement M
