@@ -6,12 +6,8 @@ use native.Mathlib.Omega.{arith}
 use native.Mathlib.Nat.{mul-le-mul-left}
 use Rattle.units.specs.declared.Nanos.{Nanos}
 use Rattle.units.specs.Ticks.{nanosToTicks}
-use Rattle.timing.specs.Grid.{firedDues, cutOff, onGrid, Passes, Least, Fit, grid}
-
--- 0 ≤ (a + k × b) × 268,111,856 − 10^9 × span < (k + 1) × 10^9, with the difference taken to the other side
-pub record InStep (a b k span : ℕ) : Type 0 where
-  pub behind : 1000000000 * span ≤ (a + k * b) * 268111856
-  pub less : (a + k * b) * 268111856 < 1000000000 * span + (k + 1) * 1000000000
+use Rattle.demand.specs.Words.{cutOff, Passes, Least, InStep}
+use Rattle.timing.specs.Grid.{firedDues, onGrid, Fit, grid}
 
 pub in-step : (a b : Nanos) (k t due : ℕ) → due ≡ t + nanosToTicks a .0 + k * nanosToTicks b .0 → InStep (a .0) (b .0) k (due - t)
 in-step a b k t due e =

@@ -10,16 +10,17 @@ use Rattle.types.specs.declared.kernel.Kernel.{Kernel}
 use Rattle.sound.specs.View.{threadAt}
 use Rattle.pass.specs.Pick.{isRunnable}
 use Rattle.pass.specs.Schedule.{schedule}
+use Rattle.demand.specs.Words.{isGiven}
 use Rattle.timing.specs.Wait.{waitOf, Blocked}
 use Rattle.timing.specs.Turn.{stays?, fateAt}
 use Rattle.timing.specs.Pass.{pass-stays, pass-ends}
-use Rattle.timing.specs.Late.{given?, byTime?, ends-given, time-given, stays-given, late-not-stays, time-from}
+use Rattle.timing.specs.Late.{byTime?, ends-given, time-given, stays-given, late-not-stays, time-from}
 
 -- what a pass makes of thread w, whose wait runs out at a tick
 pub data Ends (k : Kernel) (tick w : ℕ) (at : Ticks) : Type 0 where
-  goes-on : waitOf (threadAt (schedule k tick .kernel .threads) w) ≡ waitOf (threadAt (k .threads) w) → given? (fateAt k tick w) ≡ false → tick < at .0 → Ends k tick w at
-  runs-out : isRunnable (threadAt (schedule k tick .kernel .threads) w .status) ≡ true → given? (fateAt k tick w) ≡ false → at .0 ≤ tick → Ends k tick w at
-  gets : isRunnable (threadAt (schedule k tick .kernel .threads) w .status) ≡ true → given? (fateAt k tick w) ≡ true → Ends k tick w at
+  goes-on : waitOf (threadAt (schedule k tick .kernel .threads) w) ≡ waitOf (threadAt (k .threads) w) → isGiven (fateAt k tick w) ≡ false → tick < at .0 → Ends k tick w at
+  runs-out : isRunnable (threadAt (schedule k tick .kernel .threads) w .status) ≡ true → isGiven (fateAt k tick w) ≡ false → at .0 ≤ tick → Ends k tick w at
+  gets : isRunnable (threadAt (schedule k tick .kernel .threads) w .status) ≡ true → isGiven (fateAt k tick w) ≡ true → Ends k tick w at
 
 module _ (k : Kernel) (tick w : ℕ) (l : w < 32) (b : Blocked (k .threads) w) (at : Ticks) (e : threadAt (k .threads) w .«wakeup_at» ≡ SomeTick at) where
   abbrev stays : Bool

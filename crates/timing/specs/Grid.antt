@@ -15,6 +15,7 @@ use Rattle.types.specs.declared.thread.TickOption.{TickOption}
 use Rattle.types.specs.declared.thread.TickOption.the-variants.{NoTick, SomeTick}
 use Rattle.thread.specs.Threads.{least}
 use Rattle.pass.specs.Timers.{maxTick, saturatingAdd, saturatingMul, dueAgain}
+use Rattle.demand.specs.Words.{cutOff, Passes, Least, reached}
 
 -- ---- the due tick after timers were fired at a tick, and at each of a list
 abbrev pub firedDue : ℕ → ℕ → TickOption → TickOption
@@ -25,21 +26,9 @@ unfoldable pub firedDues : ℕ → List ℕ → TickOption → TickOption
 firedDues interval [] due = due
 firedDues interval (tick ∷ ticks) due = firedDues interval ticks (firedDue interval tick due)
 
--- ---- due at x while it fits 64 bits, else at the last tick
-abbrev pub cutOff : ℕ → TickOption
-cutOff x = SomeTick (record { 0 = least x maxTick })
-
 -- the point k of the grid from x in steps of B
 abbrev pub onGrid : ℕ → ℕ → ℕ → TickOption
 onGrid x B k = cutOff (x + k * B)
-
--- it passes every tick of a list
-abbrev pub Passes : ℕ → ℕ → List ℕ → ℕ → Type 0
-Passes x B ticks k = All (λ tick. tick < x + k * B) ticks
-
-pub record Least (P : ℕ → Type 0) (k : ℕ) : Type 0 where
-  pub holds : P k
-  pub least : (j : ℕ) → P j → k ≤ j
 
 -- 64 bits
 abbrev pub Fit : List ℕ → Type 0
@@ -155,11 +144,6 @@ pub none-due : (B : ℕ) (ticks : List ℕ) → firedDues B ticks NoTick ≡ NoT
 unfolding firedDues
 none-due B [] = refl
 none-due B (tick ∷ ticks) = none-due B ticks
-
--- whether a list has a tick at or after one
-unfoldable pub reached : ℕ → List ℕ → Bool
-reached at [] = false
-reached at (tick ∷ ticks) = leb at tick or reached at ticks
 
 pub once : (ticks : List ℕ) (at : Ticks) → firedDues 0 ticks (SomeTick at) ≡ pick (reached (at .0) ticks) NoTick (SomeTick at)
 unfolding firedDues reached _or_

@@ -19,17 +19,11 @@ use Rattle.pass.specs.declared.Fate.{Fate}
 use Rattle.pass.specs.declared.Fate.the-variants.{Stays, Given, TimedOut, Slept}
 use Rattle.pass.specs.Timers.{dueBy}
 use Rattle.pass.specs.Waits.{satisfiedAt, waitedObjects, fateOf, fateAs, fate}
+use Rattle.demand.specs.Words.{turn, isGiven}
 use Rattle.timing.specs.Wait.{Blocked}
-use Rattle.timing.specs.Turn.{stays?, turn, fateAt, turn-own}
+use Rattle.timing.specs.Turn.{stays?, fateAt, turn-own}
 
 -- ---- how a wait ends
--- with what the thread waited for
-abbrev pub given? : Fate → Bool
-given? Stays = false
-given? (Given i) = true
-given? TimedOut = false
-given? Slept = false
-
 -- by time
 abbrev pub byTime? : Fate → Bool
 byTime? Stays = false
@@ -38,7 +32,7 @@ byTime? TimedOut = true
 byTime? Slept = true
 
 -- one of the three
-pub ends-given : (f : Fate) → stays? f ≡ false → byTime? f ≡ false → given? f ≡ true
+pub ends-given : (f : Fate) → stays? f ≡ false → byTime? f ≡ false → isGiven f ≡ true
 ends-given Stays a b = sym a
 ends-given (Given i) a b = refl
 ends-given TimedOut a b = sym b
@@ -50,13 +44,13 @@ time-ends (Given i) e = refl
 time-ends TimedOut e = refl
 time-ends Slept e = refl
 
-pub stays-given : (f : Fate) → stays? f ≡ true → given? f ≡ false
+pub stays-given : (f : Fate) → stays? f ≡ true → isGiven f ≡ false
 stays-given Stays e = refl
 stays-given (Given i) e = sym e
 stays-given TimedOut e = refl
 stays-given Slept e = refl
 
-pub time-given : (f : Fate) → byTime? f ≡ true → given? f ≡ false
+pub time-given : (f : Fate) → byTime? f ≡ true → isGiven f ≡ false
 time-given Stays e = refl
 time-given (Given i) e = sym e
 time-given TimedOut e = refl
@@ -99,11 +93,11 @@ none-found (SomeIndex i) late e = false-true e
 abbrev pub Found : ThreadStatus → IndexOption → Type 0
 Found s x = (s ≡ WaitSync) × ((i : ℕ) × (x ≡ SomeIndex i))
 
-not-given : (late : Bool) (f : Fate) → given? f ≡ false → given? (pick late f Stays) ≡ false
+not-given : (late : Bool) (f : Fate) → isGiven f ≡ false → isGiven (pick late f Stays) ≡ false
 not-given true f e = e
 not-given false f e = refl
 
-given-found : (s : ThreadStatus) (x : IndexOption) (late : Bool) → given? (fateAs s x late) ≡ true → Found s x
+given-found : (s : ThreadStatus) (x : IndexOption) (late : Bool) → isGiven (fateAs s x late) ≡ true → Found s x
 given-found Dead x late e = false-true e
 given-found Running x late e = false-true e
 given-found Ready x late e = false-true e
@@ -154,8 +148,8 @@ module _ (k : Kernel) (tick w : ℕ) where
       none-found foundAt late (ap byTime? (sym (fate-is ∙ ap (λ (s : ThreadStatus). fateAs s foundAt late) q)) ∙ e)
 
   -- a wait that a pass gives something is one on objects, satisfied at its turn; and such a one is given it
-  pub given-satisfied : given? (fateAt k tick w) ≡ true → Found (threadAt (k .threads) w .status) foundAt
-  given-satisfied e = given-found (threadAt (k .threads) w .status) foundAt (dueBy (threadAt (k .threads) w .«wakeup_at») tick) (ap given? (sym fate-is) ∙ e)
+  pub given-satisfied : isGiven (fateAt k tick w) ≡ true → Found (threadAt (k .threads) w .status) foundAt
+  given-satisfied e = given-found (threadAt (k .threads) w .status) foundAt (dueBy (threadAt (k .threads) w .«wakeup_at») tick) (ap isGiven (sym fate-is) ∙ e)
 
   pub satisfied-given : (i : ℕ) → threadAt (k .threads) w .status ≡ WaitSync → foundAt ≡ SomeIndex i → fateAt k tick w ≡ Given i
   satisfied-given i q f =

@@ -16,12 +16,8 @@ use Rattle.sound.specs.View.{threadAt}
 use Rattle.thread.specs.Threads.{least}
 use Rattle.thread.specs.Marks.{least-le}
 use Rattle.pass.specs.Pick.{isRunnable, better, leastPriority, best, runsAt, firstFrom, orElse, startAfter, cyclic, keepsCore, pickNext}
+use Rattle.demand.specs.Words.{Lowest}
 use Rattle.passing.specs.Picks.{Meets, meets-first, canRun, running-runs}
-
--- ---- the thread w can run, and its priority number is below that of every other that can
-pub record Lowest (ts : List Thread) (w : ℕ) : Type 0 where
-  pub can : canRun ts w ≡ true
-  pub below : (i : ℕ) → canRun ts i ≡ true → i ≢ w → threadAt ts w .priority < threadAt ts i .priority
 
 -- a table that says the same of who can run and how urgent they are
 pub lowest-as : (ts ts′ : List Thread) (w : ℕ) → ((i : ℕ) → canRun ts′ i ≡ canRun ts i) → ((i : ℕ) → threadAt ts′ i .priority ≡ threadAt ts i .priority) → Lowest ts w → Lowest ts′ w

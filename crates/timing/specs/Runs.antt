@@ -22,7 +22,8 @@ use Rattle.pass.specs.Schedule.{markWaited, beginRun, starving, flipped, chosen
 use Rattle.passing.specs.Threads.{live-place, live-ok}
 use Rattle.timing.specs.Turn.{tried-priority}
 use Rattle.timing.specs.Rest.{rest-runs, rest-priority, mark-rest}
-use Rattle.timing.specs.Lowest.{Lowest, lowest-as, lowest-picked}
+use Rattle.demand.specs.Words.{Lowest}
+use Rattle.timing.specs.Lowest.{lowest-as, lowest-picked}
 use Rattle.timing.specs.Pass.{pass-runs, pass-priority}
 use Rattle.timing.specs.Alive.{tried-live}
 

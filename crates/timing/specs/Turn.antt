@@ -19,6 +19,7 @@ use Rattle.pass.specs.Waits.{fate, tryAs, tryWait, tryWaits}
 use Rattle.pass.specs.Schedule.{tried}
 use Rattle.passing.specs.Picks.{thread-f}
 use Rattle.timing.specs.Wait.{Blocked, blocked-in}
+use Rattle.demand.specs.Words.{turn}
 
 -- ---- what becomes of a blocked thread
 abbrev pub stays? : Fate → Bool
@@ -72,9 +73,6 @@ pub tried-priority : (k : Kernel) (tick i : ℕ) → threadAt (tried k tick .thr
 tried-priority k tick i = tries-priority tick 32 0 _ i
 
 -- ---- the turn of thread w: timers fired, the threads before it tried
-abbrev pub turn : Kernel → ℕ → ℕ → Waits
-turn k tick w = tryWaits tick w 0 (record { objects = fireTimers (k .objects) tick; threads = k .threads })
-
 abbrev pub fateAt : Kernel → ℕ → ℕ → Fate
 fateAt k tick w = fate (turn k tick w .threads) (turn k tick w .objects) tick w
 
