@@ -80,15 +80,15 @@ pub record Event : Type 0 where
   pub after : Kernel
 
 -- ---- "a wait of n nanoseconds is a call 0x0A, 0x24, 0x25 or 0x22 of kind 3 or 4 that parks with that time"
-abbrev pub waitNanos : ℕ → Registers → ℕ
+unfoldable pub waitNanos : ℕ → Registers → ℕ
 waitNanos number r =
     pick (eqb number 0x0A) (pair (r .r0) (r .r1))
     (pick (eqb number 0x22) (pair (r .r4) (r .r5))
-    (pick (eqb number 0x24) (pair (r .r2) (r .r3)) (pair (r .r0) (r .r4))))
+    (pick (eqb number 0x24) (pair (r .r2) (r .r3))
+    (pick (eqb number 0x25) (pair (r .r0) (r .r4)) 0)))
 
-abbrev pub timedWait? : ℕ → Registers → Bool
-timedWait? number r =
-    eqb number 0x0A or (eqb number 0x24 or (eqb number 0x25 or (eqb number 0x22 and (eqb (r .r2) 3 or eqb (r .r2) 4))))
+unfoldable pub timedWait? : ℕ → Registers → Bool
+timedWait? number r = eqb number 0x0A or (eqb number 0x24 or (eqb number 0x25 or (eqb number 0x22 and (eqb (r .r2) 3 or eqb (r .r2) 4))))
 
 -- "a call in the list begins a thread's wait of n nanoseconds, n from 1 to 2^63 − 1, at tick t; t + d fits 64 bits"
 pub record Begins (e : Event) (τ n t : ℕ) : Type 0 where
@@ -133,19 +133,20 @@ isGiven (Given i) = true
 isGiven TimedOut = false
 isGiven Slept = false
 
--- "a 0x22 of kind 0 for its address wakes it, through whichever arbiter holds its record": the threads that a call wakes
-abbrev pub wakesBy : ArbitrationOption → Kernel → Registers → List ℕ
-wakesBy NoArbitration k r = []
-wakesBy (SomeArbitration Signal) k r =
-    let x : Resolved = resolved k (r .r0) in
-    pick (eqb (x .object .0) 0) [] (wokenAt (k .threads) (x .store) (x .object .0) (r .r1) (r .r3))
-wakesBy (SomeArbitration WaitIfLessThan) k r = []
-wakesBy (SomeArbitration DecrementAndWaitIfLessThan) k r = []
-wakesBy (SomeArbitration WaitIfLessThanWithTimeout) k r = []
-wakesBy (SomeArbitration DecrementAndWaitIfLessThanWithTimeout) k r = []
+-- "a 0x22 of kind 0 for its address wakes it, through whichever arbiter holds its record": the threads that a call wakes, x being what its handle names
+abbrev pub wokenFor : ArbitrationType → Kernel → Resolved → Registers → List ℕ
+wokenFor Signal k x r = pick (eqb (x .object .0) 0) [] (wokenAt (k .threads) (x .store) (x .object .0) (r .r1) (r .r3))
+wokenFor WaitIfLessThan k x r = []
+wokenFor DecrementAndWaitIfLessThan k x r = []
+wokenFor WaitIfLessThanWithTimeout k x r = []
+wokenFor DecrementAndWaitIfLessThanWithTimeout k x r = []
 
-abbrev pub wakes : ℕ → Kernel → Registers → List ℕ
-wakes number k r = pick (eqb number 0x22) (wakesBy (arbitrationFromRaw (r .r2)) k r) []
+abbrev pub wokenIf : ArbitrationOption → Kernel → Registers → List ℕ
+wokenIf NoArbitration k r = []
+wokenIf (SomeArbitration kind) k r = wokenFor kind k (resolved k (r .r0)) r
+
+unfoldable pub wakes : ℕ → Kernel → Registers → List ℕ
+wakes number k r = pick (eqb number 0x22) (wokenIf (arbitrationFromRaw (r .r2)) k r) []
 
 abbrev pub gives? : ℕ → Doing → Kernel → Bool
 gives? τ (starts word) k = false

@@ -97,7 +97,7 @@ places-in zero l z = omega arith
 places-in (suc n) [] z = absurd z
 places-in (suc n) (x ∷ l) z = omega (arith, places-in n l (z .1 .1))
 
-wake-fits : (timeout : TickOption) (tick : ℕ) → tickValue (wakeTick timeout tick) < 256 ^ 8
+pub wake-fits : (timeout : TickOption) (tick : ℕ) → tickValue (wakeTick timeout tick) < 256 ^ 8
 wake-fits NoTick tick = z8
 wake-fits (SomeTick d) tick = saturating-fits tick (d .0)
 

@@ -1,0 +1,4 @@
+// The crate is its specs/: laws that each guest call keeps a state sound, and no code.
+pub fn no_code() -> u64 {
+    0
+}

@@ -1,0 +1,94 @@
+-- A guest call and a thread that waits: its wait goes on, or the call wakes it. And when the wait that a call begins runs out.
+use mathlib.Core.Path.{_≡_, refl, ap, _∙_}
+use mathlib.Core.Bool.{Bool, true, false}
+use mathlib.Core.Logic.{_≢_}
+use mathlib.Core.List.{List, []}
+use Prim.Native.Nat.{ℕ}
+use lib.Dec.{eqb}
+use borrow.Author.Tests.{eqb-true}
+use Rattle.laws.specs.Logic.{pick, false-true}
+use Rattle.types.specs.declared.thread.ThreadOption.the-variants.{SomeThread}
+use Rattle.types.specs.declared.thread.ThreadStatus.the-variants.{Dead, Ready}
+use Rattle.types.specs.declared.kernel.Kernel.{Kernel}
+use Rattle.types.specs.Sync.{arbitrationFromRaw}
+use Rattle.sound.specs.View.{threadAt}
+use Rattle.soundness.specs.Whole.{Parts}
+use Rattle.kernel.specs.NextEvent.{contains}
+use Rattle.pass.specs.Pick.{isRunnable}
+use Rattle.timing.specs.Wait.{waitOf, Blocked}
+use Rattle.svc.specs.declared.Registers.{Registers}
+use Rattle.svc.specs.declared.Served.{Served}
+use Rattle.svc.specs.Threads.{exitThread}
+use Rattle.svc.specs.Arbiter.{parkedAt}
+use Rattle.svc.specs.Dispatch.{runs?, call}
+use Rattle.deadlines.specs.Effect.{blocked-other, runs-current, Timed, runsOut}
+use Rattle.deadlines.specs.Threads.{exit-other, exit-dead}
+use Rattle.demand.specs.Words.{wokenIf, wakes, timedWait?, waitNanos}
+use Rattle.deadlines.specs.Arbiter.{if-parked, parked-blocked}
+use Rattle.deadlines.specs.Calls.{parks?, call-effect}
+
+-- ---- whom a call wakes: only threads that are parked at the address in r1, so blocked ones
+pub wakes-parked : (number : ℕ) (k : Kernel) (r : Registers) (w : ℕ) → contains (wakes number k r) w ≡ true → parkedAt (threadAt (k .threads) w) (r .r1) ≡ true
+unfolding wakes contains
+wakes-parked number k r w e = go (eqb number 0x22) e
+  where
+    go : (q : Bool) → contains (pick q (wokenIf (arbitrationFromRaw (r .r2)) k r) []) w ≡ true → parkedAt (threadAt (k .threads) w) (r .r1) ≡ true
+    go true f = if-parked (arbitrationFromRaw (r .r2)) k r w f
+    go false f = false-true f
+
+pub wakes-blocked : (number : ℕ) (k : Kernel) (r : Registers) (w : ℕ) → contains (wakes number k r) w ≡ true → Blocked (k .threads) w
+wakes-blocked number k r w e = parked-blocked (threadAt (k .threads) w) (r .r1) (wakes-parked number k r w e)
+
+module _ (number : ℕ) (k : Kernel) (r : Registers) (words : List ℕ) (tick : ℕ) (p : Parts k) where
+  abbrev after : Kernel
+  after = call number k r words tick .kernel
+
+  -- ---- the relief flag is a pass's own
+  pub call-relief : after .relief ≡ k .relief
+  call-relief = call-effect k r tick number words p .relief
+
+  -- ---- whom a call wakes is Ready after it
+  pub call-wakes : (w : ℕ) → contains (wakes number k r) w ≡ true → threadAt (after .threads) w .status ≡ Ready
+  call-wakes w e = call-effect k r tick number words p .wakes w e
+
+  pub call-runnable : (w : ℕ) → contains (wakes number k r) w ≡ true → isRunnable (threadAt (after .threads) w .status) ≡ true
+  call-runnable w e = ap isRunnable (call-wakes w e)
+
+  -- ---- while the current thread runs (question 4)
+  module _ (run : runs? k ≡ true) where
+    -- the wait of every other blocked thread is as it was
+    pub call-waits : (w : ℕ) → Blocked (k .threads) w → contains (wakes number k r) w ≡ false → waitOf (threadAt (after .threads) w) ≡ waitOf (threadAt (k .threads) w)
+    call-waits w b e = call-effect k r tick number words p .waits w b (blocked-other k run w b) e
+
+    -- the current thread is blocked afterwards only by one of four calls
+    pub call-parks : (c : ℕ) → k .«current_thread» ≡ SomeThread c → Blocked (after .threads) c → parks? number ≡ true
+    call-parks c e b = call-effect k r tick number words p .parked c e (runs-current k run c e) b
+
+    -- and a wait of n nanoseconds runs out as many ticks after the call's
+    pub call-wake : (c : ℕ) → k .«current_thread» ≡ SomeThread c → Blocked (after .threads) c → timedWait? number r ≡ true → Timed (waitNanos number r) tick
+        → threadAt (after .threads) c .«wakeup_at» ≡ runsOut (waitNanos number r) tick
+    call-wake c e b t s = call-effect k r tick number words p .wake c e (runs-current k run c e) b t s
+
+-- ---- 0x09: the current thread is Dead afterwards, and no other one is touched
+module _ (number : ℕ) (is : eqb number 0x09 ≡ true) (k : Kernel) (r : Registers) (words : List ℕ) (tick : ℕ) where
+  exits : call number k r words tick ≡ exitThread k
+  unfolding call
+  exits = ap (λ (m : ℕ). call m k r words tick) (eqb-true number 0x09 is)
+
+  pub call-exit-other : (w : ℕ) → k .«current_thread» ≢ SomeThread w → threadAt (call number k r words tick .kernel .threads) w ≡ threadAt (k .threads) w
+  call-exit-other w h = ap (λ (x : Served). threadAt (x .kernel .threads) w) exits ∙ exit-other k w h
+
+  pub call-exit-dead : runs? k ≡ true → (c : ℕ) → k .«current_thread» ≡ SomeThread c → threadAt (call number k r words tick .kernel .threads) c .status ≡ Dead
+  call-exit-dead run c e = ap (λ (x : Served). threadAt (x .kernel .threads) c .status) exits ∙ exit-dead k c e (runs-current k run c e)
+
+-- ---- what a call makes of a blocked thread w
+pub data CallEnds (number : ℕ) (k : Kernel) (r : Registers) (words : List ℕ) (tick w : ℕ) : Type 0 where
+  goes-on : waitOf (threadAt (call number k r words tick .kernel .threads) w) ≡ waitOf (threadAt (k .threads) w) → contains (wakes number k r) w ≡ false → CallEnds number k r words tick w
+  gets : threadAt (call number k r words tick .kernel .threads) w .status ≡ Ready → contains (wakes number k r) w ≡ true → CallEnds number k r words tick w
+
+pub call-end : (number : ℕ) (k : Kernel) (r : Registers) (words : List ℕ) (tick : ℕ) → Parts k → runs? k ≡ true → (w : ℕ) → Blocked (k .threads) w → CallEnds number k r words tick w
+call-end number k r words tick p run w b = go (contains (wakes number k r) w) refl
+  where
+    go : (q : Bool) → contains (wakes number k r) w ≡ q → CallEnds number k r words tick w
+    go true e = gets (call-wakes number k r words tick p w e) e
+    go false e = goes-on (call-waits number k r words tick p run w b e) e
