@@ -4,7 +4,7 @@ use mathlib.Core.Bool.{Bool, true, false}
 use mathlib.Core.List.{List, [], _∷_}
 use Prim.Native.Nat.{ℕ}
 use Rattle.sound.specs.Question.{sound?}
-use Rattle.host.specs.Lent.{lent, accepted?}
+use Rattle.lent.specs.Lent.{lent, accepted?}
 use Rattle.history.specs.Step.{Op, opFreshStart, opNextEvent, opCreateThread, opSchedule, opSatisfiedNow, opQuietRelease, opEndThread, step, Entry, trace}
 use Rattle.history.specs.Keeps.{Kept, fresh-keeps, nextEvent-keeps, createThread-keeps, schedule-keeps, satisfiedNow-keeps, quietRelease-keeps, endThread-keeps}
 

@@ -23,9 +23,9 @@ use Rattle.soundness.specs.Ends.{endThread-sound}
 use Rattle.pass.specs.Schedule as pass
 use Rattle.pass.specs.Asks as asks
 use Rattle.passing.specs.Pass.{schedule-sound}
-use Rattle.host.specs.Lent.{Lent, lent, withAnswer, withBlock, Back, back, accepted?}
-use Rattle.host.specs.Operations.{outOfHandles?, inspect, freshStart, tickBytes, nextEvent, finding, change, rowMade, createThread, passWritten, schedule, words, satisfiedBytes, satisfiedNow, releaseBytes, quietRelease, endRefusal, endThread}
-use Rattle.host.proofs.Cases.{nothing-full, nothing-over, nothing-over-objects}
+use Rattle.lent.specs.Lent.{Lent, lent, withAnswer, withBlock, Back, back, accepted?}
+use Rattle.lent.specs.Operations.{outOfHandles?, inspect, freshStart, tickBytes, nextEvent, finding, change, rowMade, createThread, passWritten, schedule, words, satisfiedBytes, satisfiedNow, releaseBytes, quietRelease, endRefusal, endThread}
+use Rattle.lent.proofs.Cases.{nothing-full, nothing-over, nothing-over-objects}
 
 -- what holds of an operation on what was lent
 pub record Kept (l : Lent) (r : Back) : Type 0 where

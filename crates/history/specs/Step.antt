@@ -2,8 +2,8 @@
 use mathlib.Core.List.{List, [], _∷_}
 use Prim.Native.Nat.{ℕ, _<_}
 use Rattle.codec.proofs.Back.{Bytes}
-use Rattle.host.specs.Lent.{lent, Back}
-use Rattle.host.specs.Operations.{freshStart, createThread, schedule, nextEvent, satisfiedNow, quietRelease, endThread}
+use Rattle.lent.specs.Lent.{lent, Back}
+use Rattle.lent.specs.Operations.{freshStart, createThread, schedule, nextEvent, satisfiedNow, quietRelease, endThread}
 
 -- an operation with everything lent besides the block and every number: what C can pass, so slices are of bytes and numbers fit
 pub data Op : Type 0 where

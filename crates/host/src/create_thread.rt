@@ -1,5 +1,5 @@
 // The export that makes a thread: its record, its row of the bank, and its number as the answer.
-use crate::questions;
+use lent::questions;
 use types::kernel::Kernel;
 ghost use mathlib.Core.Path.{_≡_};
 ghost use mathlib.Core.List.{[]};
@@ -7,8 +7,8 @@ ghost use Prim.Native.Nat.{_<_};
 ghost use lib.ListN.{length};
 ghost use Rattle.codec.specs.Bytes.{bytes};
 ghost use Rattle.thread.specs.Threads.{endedThread, tlsSlot};
-ghost use Rattle.host.specs.Lent.{lent, back};
-ghost use Rattle.host.specs.Operations.{rowMade, createThread};
+ghost use Rattle.lent.specs.Lent.{lent, back};
+ghost use Rattle.lent.specs.Operations.{rowMade, createThread};
 
 // The row and the number, from the state before the thread was made.
 fn put_made(

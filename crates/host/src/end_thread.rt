@@ -1,5 +1,5 @@
 // The export that ends a thread.
-use crate::questions;
+use lent::questions;
 use types::kernel::Kernel;
 use types::thread::Thread;
 ghost use mathlib.Core.Path.{_≡_};
@@ -7,8 +7,8 @@ ghost use mathlib.Core.List.{[]};
 ghost use Rattle.laws.specs.Logic.{pick};
 ghost use Rattle.types.specs.Thread.{isDead};
 ghost use Rattle.sound.specs.View.{threadAt};
-ghost use Rattle.host.specs.Lent.{lent, back};
-ghost use Rattle.host.specs.Operations.{endRefusal, endThread};
+ghost use Rattle.lent.specs.Lent.{lent, back};
+ghost use Rattle.lent.specs.Operations.{endRefusal, endThread};
 
 fn dead_refusal(ts: [Thread; 32], t: u32) -> u32
     ensures { λ r. ⌜ r ≡ pick (isDead (threadAt ts t .status)) 4 0 ⌝ }

@@ -1,8 +1,8 @@
 // The export that starts anew.
 ghost use mathlib.Core.Path.{_≡_};
 ghost use mathlib.Core.List.{[]};
-ghost use Rattle.host.specs.Lent.{lent, back};
-ghost use Rattle.host.specs.Operations.{freshStart};
+ghost use Rattle.lent.specs.Lent.{lent, back};
+ghost use Rattle.lent.specs.Operations.{freshStart};
 
 // A fresh block for threads that start with this status word, and a bank of zeros.
 #[no_mangle]

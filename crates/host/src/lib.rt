@@ -3,7 +3,6 @@ pub mod create_thread;
 pub mod end_thread;
 pub mod fresh_start;
 pub mod next_event;
-pub mod questions;
 pub mod quiet_release;
 pub mod satisfied_now;
 pub mod schedule;

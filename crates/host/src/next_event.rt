@@ -1,12 +1,12 @@
 // The export that tells the next tick at which a pass is wanted.
-use crate::questions;
+use lent::questions;
 use codec::Two;
 use types::thread::TickOption;
 ghost use mathlib.Core.Path.{_≡_};
 ghost use mathlib.Core.List.{[]};
 ghost use lib.ListN.{length};
-ghost use Rattle.host.specs.Lent.{lent, back};
-ghost use Rattle.host.specs.Operations.{tickBytes, nextEvent};
+ghost use Rattle.lent.specs.Lent.{lent, back};
+ghost use Rattle.lent.specs.Operations.{tickBytes, nextEvent};
 
 fn put_tick(answer: &mut [u8], at: TickOption)
     requires { ⌜ length (now answer) ≡ 16 ⌝ }

@@ -1,12 +1,12 @@
 // The export that tells what letting go of a mutex would do without a pass.
-use crate::questions;
+use lent::questions;
 use codec::Two;
 use pass::Release;
 ghost use mathlib.Core.Path.{_≡_};
 ghost use mathlib.Core.List.{[]};
 ghost use lib.ListN.{length};
-ghost use Rattle.host.specs.Lent.{lent, back};
-ghost use Rattle.host.specs.Operations as def;
+ghost use Rattle.lent.specs.Lent.{lent, back};
+ghost use Rattle.lent.specs.Operations as def;
 
 fn release_flag(r: Release) -> u32
     ensures { λ v. ⌜ v ≡ def.releaseFlag r ⌝ }

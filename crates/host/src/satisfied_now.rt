@@ -1,5 +1,5 @@
 // The export that tells what a wait on a list of handles would find at once.
-use crate::questions;
+use lent::questions;
 use codec::Two;
 use pass::IndexOption;
 use pass::Satisfied;
@@ -7,8 +7,8 @@ ghost use mathlib.Core.Path.{_≡_};
 ghost use mathlib.Core.List.{[]};
 ghost use Prim.Native.Nat.{_+_, _*_, _≤_};
 ghost use lib.ListN.{length};
-ghost use Rattle.host.specs.Lent.{lent, back};
-ghost use Rattle.host.specs.Operations as def;
+ghost use Rattle.lent.specs.Lent.{lent, back};
+ghost use Rattle.lent.specs.Operations as def;
 
 fn index_flag(o: IndexOption) -> u32
     ensures { λ v. ⌜ v ≡ def.indexFlag o ⌝ }

@@ -1,5 +1,5 @@
 // The export that makes a pass.
-use crate::questions;
+use lent::questions;
 use types::thread::ThreadOption;
 ghost use mathlib.Core.Path.{_≡_};
 ghost use mathlib.Core.List.{[]};
@@ -7,8 +7,8 @@ ghost use Prim.Native.Nat.{_+_, _*_, _<_, _≤_};
 ghost use lib.ListN.{length};
 ghost use Rattle.laws.specs.Logic.{pick};
 ghost use Rattle.codec.specs.Bytes.{bytes};
-ghost use Rattle.host.specs.Lent.{lent, back};
-ghost use Rattle.host.specs.Operations as def;
+ghost use Rattle.lent.specs.Lent.{lent, back};
+ghost use Rattle.lent.specs.Operations as def;
 
 fn save_at(bank: &mut [u8], t: u32, context: &[u8])
     requires { ⌜ length (now bank) ≡ 6656 ⌝ }

@@ -7,10 +7,10 @@ use Rattle.codec.specs.Bytes.{bytes}
 use Rattle.types.specs.declared.kernel.Kernel.{Kernel}
 use Rattle.block.specs.Block.{encBlock}
 use Rattle.thread.specs.Threads.{createThread, endedThread}
-use Rattle.host.specs.Lent.{Lent, lent, Back, back}
-use Rattle.host.specs.Operations.{finding, rowMade}
-use Rattle.host.specs.Operations as operation
-use Rattle.host.proofs.Cases.{change-1, change-2, change-found, change-0, made-place}
+use Rattle.lent.specs.Lent.{Lent, lent, Back, back}
+use Rattle.lent.specs.Operations.{finding, rowMade}
+use Rattle.lent.specs.Operations as operation
+use Rattle.lent.proofs.Cases.{change-1, change-2, change-found, change-0, made-place}
 use borrow.Author.Needs.{needs}
 use Rattle.host.proofs.create_thread.kernel_create_thread.Statement.{statement}
 use Rattle.host.proofs.create_thread.kernel_create_thread.Tie as tie
@@ -19,8 +19,8 @@ use Rattle.host.proofs.create_thread.kernel_create_thread.Lts as lts
 use Rattle.block.proofs.decode.Reads as decode-reads
 use Rattle.block.proofs.encode.Reads as encode-reads
 use Rattle.host.proofs.create_thread.put_made.Reads as put-made-reads
-use Rattle.host.proofs.questions.block_ok.Reads as block-ok-reads
-use Rattle.host.proofs.questions.first_finding.Reads as first-finding-reads
+use Rattle.lent.proofs.questions.block_ok.Reads as block-ok-reads
+use Rattle.lent.proofs.questions.first_finding.Reads as first-finding-reads
 use Rattle.thread.proofs.create.create_thread.Reads as create-thread-reads
 use Rattle.thread.proofs.places.ended_thread.Reads as ended-thread-reads
 use Rattle.thread.proofs.places.tls_slot.Reads as tls-slot-reads

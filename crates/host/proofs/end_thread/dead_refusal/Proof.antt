@@ -1,5 +1,5 @@
 use native.Mathlib.Omega.{arith}
-use Rattle.host.proofs.Cases.{dead-far}
+use Rattle.lent.proofs.Cases.{dead-far}
 use borrow.Author.Needs.{needs}
 use Rattle.host.proofs.end_thread.dead_refusal.Statement.{statement}
 use Rattle.host.proofs.end_thread.dead_refusal.Tie as tie

@@ -1,5 +1,5 @@
 use borrow.Author.Tests.{lt-ltb, le-ltb}
-use Rattle.host.specs.Operations.{endRefusal}
+use Rattle.lent.specs.Operations.{endRefusal}
 use borrow.Author.Needs.{needs}
 use Rattle.host.proofs.end_thread.end_refusal.Statement.{statement}
 use Rattle.host.proofs.end_thread.end_refusal.Tie as tie

@@ -3,10 +3,10 @@ use borrow.Author.Tests.{eq-eqb, ne-eqb, not-true, not-false}
 use mathlib.Core.List.{[]}
 use Rattle.block.specs.Block.{encBlock}
 use Rattle.thread.specs.Threads.{endThread}
-use Rattle.host.specs.Lent.{lent, withBlock, back}
-use Rattle.host.specs.Operations.{finding, endRefusal}
-use Rattle.host.specs.Operations as operation
-use Rattle.host.proofs.Cases.{change-1, change-2, change-own, change-found, change-0}
+use Rattle.lent.specs.Lent.{lent, withBlock, back}
+use Rattle.lent.specs.Operations.{finding, endRefusal}
+use Rattle.lent.specs.Operations as operation
+use Rattle.lent.proofs.Cases.{change-1, change-2, change-own, change-found, change-0}
 use borrow.Author.Needs.{needs}
 use Rattle.host.proofs.end_thread.kernel_end_thread.Statement.{statement}
 use Rattle.host.proofs.end_thread.kernel_end_thread.Tie as tie
@@ -14,9 +14,9 @@ use Rattle.host.proofs.end_thread.kernel_end_thread.Reads as reads
 use Rattle.host.proofs.end_thread.kernel_end_thread.Lts as lts
 use Rattle.block.proofs.decode.Reads as decode-reads
 use Rattle.block.proofs.encode.Reads as encode-reads
-use Rattle.host.proofs.questions.block_ok.Reads as block-ok-reads
+use Rattle.lent.proofs.questions.block_ok.Reads as block-ok-reads
 use Rattle.host.proofs.end_thread.end_refusal.Reads as end-refusal-reads
-use Rattle.host.proofs.questions.first_finding.Reads as first-finding-reads
+use Rattle.lent.proofs.questions.first_finding.Reads as first-finding-reads
 use Rattle.thread.proofs.end.end_thread.Reads as end-thread-reads
 
 returns : tie.Need-returns

@@ -4,7 +4,7 @@ use mathlib.Core.Bool.{true, false}
 use lib.ListN.{length, replicate}
 use Rattle.laws.specs.Logic.{pick, _and_, and-no, and-yes, true-and, pick-yes, pick-no}
 use Rattle.codec.proofs.Laws.{over-all}
-use Rattle.host.specs.Operations.{freshStart}
+use Rattle.lent.specs.Operations.{freshStart}
 use borrow.Author.Needs.{needs}
 use Rattle.host.proofs.fresh_start.kernel_fresh_start.Statement.{statement}
 use Rattle.host.proofs.fresh_start.kernel_fresh_start.Tie as tie

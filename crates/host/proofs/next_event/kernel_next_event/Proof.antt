@@ -5,18 +5,18 @@ use mathlib.Core.List.{[]}
 use lib.ListN.{length}
 use Rattle.laws.specs.Logic.{_and_, and-no, and-yes, true-and}
 use Rattle.kernel.specs.NextEvent.{nextEvent}
-use Rattle.host.specs.Lent.{lent}
-use Rattle.host.specs.Operations.{tickBytes}
-use Rattle.host.specs.Operations as operation
-use Rattle.host.proofs.Cases.{inspect-1, inspect-2, inspect-8, inspect-0}
+use Rattle.lent.specs.Lent.{lent}
+use Rattle.lent.specs.Operations.{tickBytes}
+use Rattle.lent.specs.Operations as operation
+use Rattle.lent.proofs.Cases.{inspect-1, inspect-2, inspect-8, inspect-0}
 use borrow.Author.Needs.{needs}
 use Rattle.host.proofs.next_event.kernel_next_event.Statement.{statement}
 use Rattle.host.proofs.next_event.kernel_next_event.Tie as tie
 use Rattle.host.proofs.next_event.kernel_next_event.Reads as reads
 use Rattle.host.proofs.next_event.kernel_next_event.Lts as lts
 use Rattle.block.proofs.decode.Reads as decode-reads
-use Rattle.host.proofs.questions.block_ok.Reads as block-ok-reads
-use Rattle.host.proofs.questions.out_of_handles.Reads as out-of-handles-reads
+use Rattle.lent.proofs.questions.block_ok.Reads as block-ok-reads
+use Rattle.lent.proofs.questions.out_of_handles.Reads as out-of-handles-reads
 use Rattle.host.proofs.next_event.put_tick.Reads as put-tick-reads
 use Rattle.kernel.proofs.next_event.next_event.Reads as next-event-reads
 

@@ -6,7 +6,7 @@ use Rattle.codec.proofs.Laws.{length-bytes}
 use Rattle.types.specs.Thread.{tickFlag, tickValue}
 use Rattle.block.proofs.Row.{start, next, whole}
 use Rattle.block.proofs.Sizes.{length-two}
-use Rattle.host.specs.Operations.{tickBytes}
+use Rattle.lent.specs.Operations.{tickBytes}
 use borrow.Author.Needs.{needs}
 use Rattle.host.proofs.next_event.put_tick.Statement.{statement}
 use Rattle.host.proofs.next_event.put_tick.Tie as tie

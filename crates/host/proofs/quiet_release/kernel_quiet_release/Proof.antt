@@ -3,18 +3,18 @@ use borrow.Author.Tests.{lt-ltb, le-ltb, eq-eqb, ne-eqb, not-true, not-false}
 use mathlib.Core.List.{[]}
 use Rattle.laws.specs.Logic.{_and_, and-no, and-yes, true-and}
 use Rattle.pass.specs.Asks.{quietRelease}
-use Rattle.host.specs.Lent.{lent}
-use Rattle.host.specs.Operations.{releaseBytes}
-use Rattle.host.specs.Operations as operation
-use Rattle.host.proofs.Cases.{inspect-1, inspect-2, inspect-8, inspect-0}
+use Rattle.lent.specs.Lent.{lent}
+use Rattle.lent.specs.Operations.{releaseBytes}
+use Rattle.lent.specs.Operations as operation
+use Rattle.lent.proofs.Cases.{inspect-1, inspect-2, inspect-8, inspect-0}
 use borrow.Author.Needs.{needs}
 use Rattle.host.proofs.quiet_release.kernel_quiet_release.Statement.{statement}
 use Rattle.host.proofs.quiet_release.kernel_quiet_release.Tie as tie
 use Rattle.host.proofs.quiet_release.kernel_quiet_release.Reads as reads
 use Rattle.host.proofs.quiet_release.kernel_quiet_release.Lts as lts
 use Rattle.block.proofs.decode.Reads as decode-reads
-use Rattle.host.proofs.questions.block_ok.Reads as block-ok-reads
-use Rattle.host.proofs.questions.out_of_handles.Reads as out-of-handles-reads
+use Rattle.lent.proofs.questions.block_ok.Reads as block-ok-reads
+use Rattle.lent.proofs.questions.out_of_handles.Reads as out-of-handles-reads
 use Rattle.host.proofs.quiet_release.put_release.Reads as put-release-reads
 use Rattle.scheduler.proofs.quiet.quiet_release.Reads as quiet-release-reads
 

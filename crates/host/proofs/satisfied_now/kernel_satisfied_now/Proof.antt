@@ -5,18 +5,18 @@ use mathlib.Core.List.{[]}
 use lib.Dec.{eqb}
 use Rattle.laws.specs.Logic.{_and_, and-no, and-yes, true-and}
 use Rattle.pass.specs.Asks.{satisfiedNow}
-use Rattle.host.specs.Lent.{lent}
-use Rattle.host.specs.Operations.{words, satisfiedBytes}
-use Rattle.host.specs.Operations as operation
-use Rattle.host.proofs.Cases.{inspect-1, inspect-2, inspect-8, inspect-0}
+use Rattle.lent.specs.Lent.{lent}
+use Rattle.lent.specs.Operations.{words, satisfiedBytes}
+use Rattle.lent.specs.Operations as operation
+use Rattle.lent.proofs.Cases.{inspect-1, inspect-2, inspect-8, inspect-0}
 use borrow.Author.Needs.{needs}
 use Rattle.host.proofs.satisfied_now.kernel_satisfied_now.Statement.{statement}
 use Rattle.host.proofs.satisfied_now.kernel_satisfied_now.Tie as tie
 use Rattle.host.proofs.satisfied_now.kernel_satisfied_now.Reads as reads
 use Rattle.host.proofs.satisfied_now.kernel_satisfied_now.Lts as lts
 use Rattle.block.proofs.decode.Reads as decode-reads
-use Rattle.host.proofs.questions.block_ok.Reads as block-ok-reads
-use Rattle.host.proofs.questions.out_of_handles.Reads as out-of-handles-reads
+use Rattle.lent.proofs.questions.block_ok.Reads as block-ok-reads
+use Rattle.lent.proofs.questions.out_of_handles.Reads as out-of-handles-reads
 use Rattle.host.proofs.satisfied_now.put_satisfied.Reads as put-satisfied-reads
 use Rattle.wait.proofs.now.satisfied_now.Reads as satisfied-now-reads
 

@@ -5,10 +5,10 @@ use mathlib.Core.List.{[]}
 use Rattle.laws.specs.Logic.{_and_, and-no, and-yes, true-and}
 use Rattle.pass.specs.declared.Passed.{Passed}
 use Rattle.pass.specs.Schedule.{schedule}
-use Rattle.host.specs.Lent.{lent, back}
-use Rattle.host.specs.Operations.{finding, passWritten}
-use Rattle.host.specs.Operations as operation
-use Rattle.host.proofs.Cases.{change-1, change-2, change-found, change-0}
+use Rattle.lent.specs.Lent.{lent, back}
+use Rattle.lent.specs.Operations.{finding, passWritten}
+use Rattle.lent.specs.Operations as operation
+use Rattle.lent.proofs.Cases.{change-1, change-2, change-found, change-0}
 use borrow.Author.Needs.{needs}
 use Rattle.host.proofs.schedule.kernel_schedule.Statement.{statement}
 use Rattle.host.proofs.schedule.kernel_schedule.Tie as tie
@@ -16,8 +16,8 @@ use Rattle.host.proofs.schedule.kernel_schedule.Reads as reads
 use Rattle.host.proofs.schedule.kernel_schedule.Lts as lts
 use Rattle.block.proofs.decode.Reads as decode-reads
 use Rattle.block.proofs.encode.Reads as encode-reads
-use Rattle.host.proofs.questions.block_ok.Reads as block-ok-reads
-use Rattle.host.proofs.questions.first_finding.Reads as first-finding-reads
+use Rattle.lent.proofs.questions.block_ok.Reads as block-ok-reads
+use Rattle.lent.proofs.questions.first_finding.Reads as first-finding-reads
 use Rattle.host.proofs.schedule.put_passed.Reads as put-passed-reads
 use Rattle.scheduler.proofs.schedule.schedule.Reads as schedule-reads
 

@@ -17,8 +17,8 @@ use Rattle.svc.specs.declared.Served.{Served}
 use Rattle.svc.specs.Table.{rowOf, written}
 use Rattle.svc.specs.Dispatch.{wordsRead, given, runs?, refusal, call}
 use Rattle.svc.specs.Collect as svc
-use Rattle.host.specs.Lent.{Lent, lent, Back, back}
-use Rattle.host.specs.Operations.{change, rowMade}
+use Rattle.lent.specs.Lent.{Lent, lent, Back, back}
+use Rattle.lent.specs.Operations.{change, rowMade}
 
 -- ---- a guest call
 -- the first six words of the processor

@@ -18,8 +18,8 @@ use Rattle.sound.specs.View.{noThread, threadAt}
 use Rattle.sound.specs.Sound.{state?}
 use Rattle.sound.specs.Question.{sound?}
 use Rattle.thread.specs.Threads.{createThread, endedThread}
-use Rattle.host.specs.Lent.{Lent, withAnswer, Back, back}
-use Rattle.host.specs.Operations.{outOfHandles?, inspect, finding, change}
+use Rattle.lent.specs.Lent.{Lent, withAnswer, Back, back}
+use Rattle.lent.specs.Operations.{outOfHandles?, inspect, finding, change}
 
 module _ (lengths : Bool) (look : Kernel → List ℕ) (l : Lent) where
   pub inspect-1 : lengths ≡ false → back 1 l ≡ inspect lengths look l

@@ -2,10 +2,10 @@ use mathlib.Core.Path.{_≡_, refl, ap, sym, _∙_}
 use borrow.Author.Tests.{eq-eqb, ne-eqb, not-true, not-false}
 use Rattle.laws.specs.Logic.{and-no, and-yes}
 use borrow.Author.Needs.{needs}
-use Rattle.host.proofs.questions.block_ok.Statement.{statement}
-use Rattle.host.proofs.questions.block_ok.Tie as tie
-use Rattle.host.proofs.questions.block_ok.Reads as reads
-use Rattle.host.proofs.questions.block_ok.Lts as lts
+use Rattle.lent.proofs.questions.block_ok.Statement.{statement}
+use Rattle.lent.proofs.questions.block_ok.Tie as tie
+use Rattle.lent.proofs.questions.block_ok.Reads as reads
+use Rattle.lent.proofs.questions.block_ok.Lts as lts
 use Rattle.block.proofs.encode.Reads as encode-reads
 use Rattle.codec.proofs.same_words.Reads as same-words-reads
 use Rattle.question.proofs.state_ok.Reads as state-ok-reads

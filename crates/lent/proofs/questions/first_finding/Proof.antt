@@ -1,11 +1,11 @@
 use Rattle.laws.specs.Logic.{_or_}
-use Rattle.host.specs.Operations.{outOfHandles?, finding}
+use Rattle.lent.specs.Operations.{outOfHandles?, finding}
 use borrow.Author.Needs.{needs}
-use Rattle.host.proofs.questions.first_finding.Statement.{statement}
-use Rattle.host.proofs.questions.first_finding.Tie as tie
-use Rattle.host.proofs.questions.first_finding.Reads as reads
-use Rattle.host.proofs.questions.first_finding.Lts as lts
-use Rattle.host.proofs.questions.out_of_handles.Reads as out-of-handles-reads
+use Rattle.lent.proofs.questions.first_finding.Statement.{statement}
+use Rattle.lent.proofs.questions.first_finding.Tie as tie
+use Rattle.lent.proofs.questions.first_finding.Reads as reads
+use Rattle.lent.proofs.questions.first_finding.Lts as lts
+use Rattle.lent.proofs.questions.out_of_handles.Reads as out-of-handles-reads
 
 returns : tie.Need-returns
 unfolding finding _or_

@@ -29,7 +29,7 @@ use Rattle.pass.specs.declared.Release.the-variants.{NotQuiet, CountsDown, Free
 use Rattle.pass.specs.declared.Passed.{Passed}
 use Rattle.pass.specs.Asks as asks
 use Rattle.pass.specs.Schedule as pass
-use Rattle.host.specs.Lent.{Lent, lent, withAnswer, withBlock, Back, back}
+use Rattle.lent.specs.Lent.{Lent, lent, withAnswer, withBlock, Back, back}
 
 -- question 8 of an operation that changes nothing: the next handle is at most 0xFFFF8000
 unfoldable pub outOfHandles? : Kernel → Bool

@@ -8,7 +8,7 @@ ghost use Rattle.laws.specs.Logic.{_and_};
 ghost use Rattle.codec.specs.Bytes.{same};
 ghost use Rattle.block.specs.Block.{encBlock};
 ghost use Rattle.sound.specs.Sound.{state?};
-ghost use Rattle.host.specs.Operations.{finding};
+ghost use Rattle.lent.specs.Operations.{finding};
 
 // Question 2, on a block and what it decodes to.
 pub fn block_ok(b: &[u8], k: Kernel) -> bool

@@ -1,0 +1,2 @@
+-- The laws that the proofs of the exports cite.
+pub mod Cases

@@ -1,0 +1,14 @@
+use mathlib.Core.Path.{refl}
+use Rattle.lent.specs.Operations.{outOfHandles?}
+use borrow.Author.Needs.{needs}
+use Rattle.lent.proofs.questions.out_of_handles.Statement.{statement}
+use Rattle.lent.proofs.questions.out_of_handles.Tie as tie
+use Rattle.lent.proofs.questions.out_of_handles.Reads as reads
+use Rattle.lent.proofs.questions.out_of_handles.Lts as lts
+
+returns : tie.Need-returns
+unfolding outOfHandles?
+returns c = refl
+
+pub out-of-handles-spec : {M : Type 1} → statement M
+out-of-handles-spec = tie.close (tie.spec returns)
