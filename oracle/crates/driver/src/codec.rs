@@ -74,7 +74,7 @@ pub fn decode(b: &[u8]) -> Result<State, String> {
     let count = |at: usize, most: usize| if word(at) as usize <= most { Ok(word(at) as usize) } else { Err(format!("count at {at}")) };
     Ok(State {
         status_word: word(0),
-        threads: (0..count(4, THREADS)?).map(|i| get_thread(&b[THREADS_AT + THREAD * i..][..THREAD])).collect::<Result<_, _>>()?,
+        threads: all(count(4, THREADS)?, |i| get_thread(&b[THREADS_AT + THREAD * i..][..THREAD]))?,
         current: flag(8)?.then_some(word(12)),
         next_tls_slot: word(16),
         next_guest_id: word(20),
@@ -85,10 +85,17 @@ pub fn decode(b: &[u8]) -> Result<State, String> {
         handles: (0..count(40, HANDLES)?).map(|i| (word(HANDLES_AT + ENTRY * i), word(HANDLES_AT + ENTRY * i + 4))).collect(),
         next_handle: word(44),
         process_object: word(48),
-        slots: (0..OBJECTS).map(|i| get_slot(&b[SLOTS_AT + SLOT * i..][..SLOT])).collect::<Result<_, _>>()?,
+        slots: all(OBJECTS, |i| get_slot(&b[SLOTS_AT + SLOT * i..][..SLOT]))?,
         records: (0..RECORDS).map(|i| RECORDS_AT + RECORD * i).map(|at| Record { thread: word(at), address: word(at + 4), next: word(at + 8) }).collect(),
         kept: (0..THREADS).map(|i| word(KEPT_AT + 4 * i)).collect(),
     })
+}
+
+/// a table's rows. To collect a Result grows the vector bit by bit.
+fn all<T>(rows: usize, get: impl Fn(usize) -> Result<T, String>) -> Result<Vec<T>, String> {
+    let mut table = Vec::with_capacity(rows);
+    for i in 0..rows { table.push(get(i)?); }
+    Ok(table)
 }
 
 fn flag(word: u32, at: usize) -> Result<bool, String> { if word <= 1 { Ok(word == 1) } else { Err(format!("flag at {at}")) } }

@@ -32,6 +32,30 @@ impl Lent {
         Ok(())
     }
 
+    /// a window whose words are handles, so that guest calls on built blocks find some.
+    pub fn set_window(&mut self, base: u32, words: u32, handle: u32) {
+        self.window = (0..words).flat_map(|i| (handle + i).to_le_bytes()).collect();
+        self.base = base;
+    }
+
+    /// takes over what the other is, in place.
+    pub fn copy_from(&mut self, other: &Lent) {
+        let Lent { block, bank, processor, window, base } = other;
+        self.block.clone_from(block);
+        self.bank.clone_from(bank);
+        self.processor.clone_from(processor);
+        self.window.clone_from(window);
+        self.base = *base;
+    }
+
+    /// puts a call's arguments into the processor.
+    pub fn lend(&mut self, op: &Op) {
+        if let Op::Call { regs, .. } = op { for (i, word) in regs.iter().enumerate() { codec::put32(&mut self.processor, 4 * i, *word); } }
+    }
+
+    /// the bank's rows as words.
+    pub fn contexts(&self) -> [[u32; 52]; THREADS] { std::array::from_fn(|t| std::array::from_fn(|i| codec::get32(&self.bank, CONTEXT * t + 4 * i))) }
+
     /// an oracle with this processor and window, and nothing else.
     pub fn oracle(&self) -> Oracle {
         let mut o = Oracle::new();
@@ -49,6 +73,15 @@ impl Lent {
         for (i, c) in self.window.chunks(4).enumerate() { d.push((format!("W{:x}", self.base as u64 + 4 * i as u64), words(c))); }
         Ok(d)
     }
+}
+
+fn holds(bytes: &[u8], words: &[u32; 52]) -> bool { words.iter().zip(bytes.chunks_exact(4)).all(|(w, c)| w.to_le_bytes() == c) }
+
+/// whether the oracle's state is what is lent; `s` is what the block says.
+pub fn same(o: &Oracle, lent: &Lent, s: &State) -> bool {
+    State::of(o).is_ok_and(|theirs| s.same(&theirs)) && s.free_tls().eq(o.sys.kernel.oracle_private().free_tls)
+        && lent.bank.chunks_exact(CONTEXT).zip(0..s.threads.len()).all(|(row, t)| holds(row, &o.bank_words(t)))
+        && holds(&lent.processor, &o.cpu_words()) && lent.window == o.sys.memory.bytes && lent.base == o.sys.memory.base
 }
 
 /// the first line that the oracle's state and what is lent do not share.

@@ -4,6 +4,7 @@ mod bytes;
 mod codec;
 mod compare;
 mod damage;
+mod figures;
 mod lent;
 mod port;
 mod question;
@@ -13,7 +14,7 @@ mod state;
 use oracle::gen::PROFILES;
 use std::process::ExitCode;
 
-const USAGE: &str = "usage: driver compare [--seed S] [--count N] [--profile P] | driver blocks DIR N";
+const USAGE: &str = "usage: driver compare [--seed S] [--count N] [--profile P] [--calls NAME,..] [--text] | driver list | driver blocks DIR N";
 
 fn named(args: &[String], name: &str) -> Option<String> { args.iter().position(|a| a == name).and_then(|i| args.get(i + 1).cloned()) }
 
@@ -22,10 +23,16 @@ fn run(args: &[String]) -> Result<bool, String> {
         Some("compare") => {
             let number = |name: &str| named(args, name).map_or(Ok(1), |v| v.parse::<u64>().map_err(|e| format!("{name}: {e}")));
             let profile = named(args, "--profile").map(|p| PROFILES.iter().position(|x| *x == p).ok_or(format!("no profile {p}"))).transpose()?;
+            let chosen = named(args, "--calls").map_or(Ok(port::Chosen::all()), |list| port::Chosen::parse(&list))?;
+            let task = compare::Task { profile, chosen, text: args.iter().any(|a| a == "--text") };
             oracle::quiet_panics();
-            let figures = compare::compare(number("--seed")?, number("--count")?, profile);
+            let figures = compare::compare(number("--seed")?, number("--count")?, &task);
             figures.print();
             Ok(figures.differing == 0)
+        }
+        Some("list") => {
+            for x in port::OPERATIONS { println!("{}", x.name); }
+            Ok(true)
         }
         Some("blocks") => {
             let (dir, count) = (args.get(1).ok_or(USAGE)?, args.get(2).and_then(|n| n.parse().ok()).ok_or(USAGE)?);

@@ -4,6 +4,9 @@ use oracle::gen::Rng;
 use oracle::{HANDLES, LAST_NEXT, LIST, OBJECTS, RECORDS, THREADS};
 use std::collections::BTreeSet;
 
+/// where the addresses of records begin: 64 words.
+pub const ADDRESSES: u32 = 0x1000;
+
 pub struct Size { pub threads: usize, pub objects: usize, pub handles: usize, pub records: usize }
 
 impl Size {
@@ -74,7 +77,7 @@ pub fn rich(r: &mut Rng, size: &Size) -> State {
     let mut left = size.records;
     while left > 0 {
         let at = r.below(arbiters.len() as u64) as usize;
-        let record = (r.below(size.threads as u64) as u32, 0x1000 + 4 * r.below(64) as u32);
+        let record = (r.below(size.threads as u64) as u32, ADDRESSES + 4 * r.below(64) as u32);
         if !arbiters[at].1.contains(&record) { arbiters[at].1.push(record); left -= 1; }
     }
     let numbers = shuffled(r, RECORDS);

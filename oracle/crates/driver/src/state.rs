@@ -1,9 +1,14 @@
 //! what a state block says, as docs/STATE.md has it, and the same from the oracle's state.
 use oracle::checked;
 use oracle::{dedup, Oracle, HANDLES, LIST, OBJECTS, RECORDS, THREADS};
-use std::collections::BTreeSet;
-use zakuro_core::kernel::object::KObject;
-use zakuro_core::kernel::thread::{ThreadStatus, WaitSyscall};
+use serde::{part_mut, Parts};
+use std::collections::{BTreeMap, BTreeSet};
+use zakuro_core::kernel::object::{HandleTable, KObject, ObjectId, ObjectStore};
+use zakuro_core::kernel::sync::{AddressArbiter, Event, Mutex, ResetType, Semaphore, Timer};
+use zakuro_core::kernel::thread::{self, ThreadContext, ThreadStatus, WaitSyscall};
+use zakuro_core::kernel::Kernel;
+use zakuro_core::memory::MemoryRegion;
+use zakuro_cpu::Psr;
 
 pub const STATUSES: [&str; 7] = ["Dead", "Running", "Ready", "Sleeping", "WaitSync", "WaitArbiter", "Dormant"];
 pub const SYSCALLS: [&str; 5] = ["-", "wait1", "waitn", "arbitrate", "sleep"];
@@ -152,6 +157,96 @@ impl State {
         Ok(s)
     }
 
+    /// whether both say the same. Record numbers may differ: an arbiter's records are compared as a list.
+    pub fn same(&self, other: &State) -> bool {
+        // every field is named, so that none is forgotten
+        let State {
+            status_word, current, next_tls_slot, next_guest_id, all_blocked, relief, first_free, first_free_record: _, next_handle, process_object,
+            threads, slots, handles, records: _, kept,
+        } = self;
+        let objects = |(a, b): (&Slot, &Slot)| match (a.object, b.object) {
+            (Object::Arbiter { first: x }, Object::Arbiter { first: y }) => (a.refcount, a.pulsed) == (b.refcount, b.pulsed) && self.records_of(x).eq(other.records_of(y)),
+            _ => a == b,
+        };
+        *status_word == other.status_word && *current == other.current && *next_tls_slot == other.next_tls_slot && *next_guest_id == other.next_guest_id
+            && *all_blocked == other.all_blocked && *relief == other.relief && *first_free == other.first_free && *next_handle == other.next_handle
+            && *process_object == other.process_object && *threads == other.threads && *handles == other.handles && *kept == other.kept
+            && slots.len() == other.slots.len() && slots.iter().zip(&other.slots).all(objects)
+    }
+
+    /// thread and address of an arbiter's records. A chain that does not end is cut after 64.
+    fn records_of(&self, first: u32) -> impl Iterator<Item = (u32, u32)> + '_ {
+        let mut at = first;
+        (0..RECORDS).map_while(move |_| {
+            let r = self.records.get((at as usize).wrapping_sub(1))?;
+            at = r.next;
+            Some((r.thread, r.address))
+        })
+    }
+
+    /// the TLS slots that live threads leave below the next, rising.
+    pub fn free_tls(&self) -> impl Iterator<Item = u32> + '_ {
+        (0..self.next_tls_slot.min(THREADS as u32)).filter(|s| !self.threads.iter().any(|t| t.status != 0 && t.tls == *s))
+    }
+
+    /// gives the oracle this state, with these contexts. What `oracle::state::load` makes of the lines of a block that is
+    /// `formed`, where every slot exists.
+    pub fn load(&self, o: &mut Oracle, bank: &[[u32; 52]]) {
+        o.default_status = self.status_word;
+        let mut k = Kernel::new(0, MemoryRegion::Application, 0);
+        k.objects = self.store();
+        k.handles = self.table();
+        k.threads = self.threads.iter().zip(bank).enumerate().map(|(i, (t, words))| thread_to(i as u32, t, words)).collect();
+        k.current_thread = self.current;
+        (k.next_guest_id, k.all_blocked) = (self.next_guest_id, self.all_blocked);
+        k.timers = ids(self.slots.iter().map(|x| matches!(x.object, Object::Timer { .. })));
+        k.pulsed = ids(self.slots.iter().map(|x| x.pulsed));
+        *part_mut(&mut k, "next_tls_slot") = self.next_tls_slot;
+        *part_mut::<BTreeSet<u32>>(&mut k, "free_tls") = self.free_tls().collect();
+        *part_mut(&mut k, "relief") = self.relief;
+        let kept = self.kept.iter().take(self.threads.len()).enumerate().filter(|(_, object)| **object != 0);
+        *part_mut::<BTreeMap<u32, ObjectId>>(&mut k, "thread_objects") = kept.map(|(t, object)| (t as u32, checked::slot(*object))).collect();
+        *part_mut(&mut k, "process_object") = (self.process_object != 0).then(|| checked::slot(self.process_object));
+        o.sys.kernel = k;
+    }
+
+    fn store(&self) -> ObjectStore {
+        let mut store = ObjectStore::default();
+        for slot in &self.slots { store.insert(self.object_to(slot.object)); }
+        let slots = store.part_mut("slots").unwrap();
+        for (i, slot) in self.slots.iter().enumerate() {
+            let place = slots.item_mut(i).unwrap();
+            if let Object::Free { .. } = slot.object { place.clear(); } else { *part_mut(place, "refcount") = slot.refcount; }
+        }
+        // the Rust pops from the end
+        *part_mut::<Vec<u32>>(&mut store, "free") = self.free_chain().into_iter().rev().map(|n| n - 1).collect();
+        store
+    }
+
+    fn table(&self) -> HandleTable {
+        let mut table = HandleTable::default();
+        *part_mut::<BTreeMap<u32, ObjectId>>(&mut table, "entries") = self.handles.iter().map(|(h, o)| (*h, checked::slot(*o))).collect();
+        *part_mut::<BTreeMap<u32, String>>(&mut table, "labels") = self.handles.iter().map(|(h, _)| (*h, String::new())).collect();
+        *part_mut(&mut table, "next") = self.next_handle;
+        table
+    }
+
+    /// a dead slot gets some object, which `store` takes out again.
+    fn object_to(&self, object: Object) -> KObject {
+        let name = String::new();
+        let reset_type = |reset: u32| match reset { 1 => ResetType::Sticky, 2 => ResetType::Pulse, _ => ResetType::OneShot };
+        match object {
+            Object::Thread(t) => KObject::Thread(t),
+            Object::Event { reset, signaled } => KObject::Event(Event { name, reset_type: reset_type(reset), signaled }),
+            Object::Mutex { owner, lock_count } => KObject::Mutex(Mutex { name, owner, lock_count }),
+            Object::Semaphore { count, max_count } => KObject::Semaphore(Semaphore { name, count, max_count }),
+            Object::Timer { reset, signaled, fire_at, interval } => KObject::Timer(Timer { name, reset_type: reset_type(reset), signaled, fire_at, interval }),
+            Object::Arbiter { first } => KObject::AddressArbiter(AddressArbiter { name, waiters: self.records_of(first).collect() }),
+            Object::Free { .. } | Object::Process => KObject::Process,
+            Object::ResourceLimit => KObject::ResourceLimit,
+        }
+    }
+
     /// the free slots in chain order. A chain that does not end is cut after 128.
     pub fn free_chain(&self) -> Vec<u32> {
         let mut chain = Vec::new();
@@ -190,8 +285,7 @@ impl State {
         put("next_guest".into(), self.next_guest_id.to_string());
         put("next_handle".into(), format!("{:x}", self.next_handle));
         put("next_tls".into(), self.next_tls_slot.to_string());
-        let held: BTreeSet<u32> = self.threads.iter().filter(|t| t.status != 0).map(|t| t.tls).collect();
-        put("free_tls".into(), list(&(0..self.next_tls_slot.min(THREADS as u32)).filter(|s| !held.contains(s)).collect::<Vec<_>>()));
+        put("free_tls".into(), list(&self.free_tls().collect::<Vec<_>>()));
         put("process_object".into(), number(self.process_object));
         for (i, t) in self.threads.iter().enumerate() {
             put(format!("T{i}"), format!(
@@ -240,5 +334,25 @@ fn thread_of(t: &zakuro_core::kernel::thread::Thread) -> Thread {
             Some(WaitSyscall::ArbitrateAddress) => 3, Some(WaitSyscall::SleepThread) => 4,
         },
         guest_id: t.guest_id, running_since: t.running_since,
+    }
+}
+
+/// the slots for which this holds.
+fn ids(holds: impl Iterator<Item = bool>) -> Vec<ObjectId> { holds.enumerate().filter(|(_, x)| *x).map(|(i, _)| ObjectId(i as u32)).collect() }
+
+fn thread_to(id: u32, t: &Thread, words: &[u32; 52]) -> thread::Thread {
+    use ThreadStatus::*;
+    let context = ThreadContext {
+        regs: words[..16].try_into().unwrap(), cpsr: Psr::from_word(words[16]), vfp_regs: words[17..49].try_into().unwrap(),
+        fpscr: words[49], fpexc: words[50], tls_pointer: words[51],
+    };
+    thread::Thread {
+        id, name: String::new(), context, priority: t.priority, status: [Dead, Running, Ready, Sleeping, WaitSync, WaitArbiter, Dormant][t.status as usize],
+        entry: t.entry, stack_top: t.stack_top, tls: t.tls, processor_id: t.processor_id as i32,
+        wait_objects: t.wait_objects.iter().map(|o| checked::slot(*o)).collect(), wait_all: t.wait_all,
+        wakeup_at: t.wakeup_at, running_since: t.running_since, waited: t.waited, wait_address: t.wait_address,
+        wait_result: t.wait_result.map(|r| match r { WaitResult::Signaled(i) => thread::WaitResult::Signaled(i as usize), WaitResult::TimedOut => thread::WaitResult::TimedOut }),
+        wait_syscall: [None, Some(WaitSyscall::WaitSynchronization1), Some(WaitSyscall::WaitSynchronizationN), Some(WaitSyscall::ArbitrateAddress), Some(WaitSyscall::SleepThread)][t.wait_syscall as usize],
+        guest_id: t.guest_id,
     }
 }

@@ -461,7 +461,7 @@ impl Gen {
             let tick = self.tick;
             crate::state::perturb(&mut other.sys, &mut self.rng, tick, at);
             // only blocks that question 2 accepts
-            if other.unsound().iter().all(|b| b.starts_with("(habit)")) {
+            if other.first_fault().is_none() {
                 let lines = other.dump().into_iter().filter(|(k, _)| !k.starts_with('W') && k != "next_event" && k != "P").collect();
                 vec![Op::Load(lines)]
             } else { vec![] }

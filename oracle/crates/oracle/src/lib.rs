@@ -92,8 +92,9 @@ impl Holdings {
 
 /// a thread's second record in one arbiter for one address is not stored: the first place stays.
 pub fn dedup(waiters: &[(u32, u32)]) -> Vec<(u32, u32)> {
-    let mut seen = BTreeSet::new();
-    waiters.iter().copied().filter(|w| seen.insert(*w)).collect()
+    let mut kept = Vec::with_capacity(waiters.len());
+    for w in waiters { if !kept.contains(w) { kept.push(*w); } }
+    kept
 }
 
 pub mod checked {
@@ -120,11 +121,20 @@ pub struct Oracle {
     pub panics: Vec<String>,
 }
 
-/// what running an operation on a copy gave.
+/// what running an operation on a copy gave. No copy is made for one that only looks.
 enum Tried {
-    Done(System, Answer),
+    Done(Option<System>, Answer),
     Overflow,
     Panic(String),
+}
+
+/// an operation judged on a state, which stays as it is.
+pub struct Judged {
+    pub answer: Answer,
+    /// what the operation left, if it was accepted and does more than look.
+    pub after: Option<System>,
+    /// what document 01 has to rule out.
+    pub odd: Option<String>,
 }
 
 pub fn quiet_panics() { std::panic::set_hook(Box::new(|i| { if std::env::var("ORACLE_PANICS").is_ok() { eprintln!("{i}"); } })); }
@@ -135,8 +145,13 @@ impl Oracle {
     pub fn new() -> Oracle { Oracle { sys: System::new(), default_status: 0x10, panics: Vec::new() } }
 
     fn attempt(&self, op: &Op) -> Tried {
-        let mut copy = self.sys.dup();
-        match catch_unwind(AssertUnwindSafe(move || { let a = checked::run(&mut copy, op); (copy, a) })) {
+        let tried = catch_unwind(AssertUnwindSafe(|| {
+            if let Some(out) = checked::look(&self.sys, op) { return (None, Answer { code: 0, out }); }
+            let mut copy = self.sys.dup();
+            let a = checked::run(&mut copy, op);
+            (Some(copy), a)
+        }));
+        match tried {
             Ok((s, a)) => Tried::Done(s, a),
             Err(e) => {
                 let text = e.downcast_ref::<String>().cloned().or_else(|| e.downcast_ref::<&str>().map(|s| s.to_string())).unwrap_or_default();
@@ -173,27 +188,33 @@ impl Oracle {
         }
     }
 
-    /// the refusal document 01 asks for, 3 to 8, on the Rust's state.
-    pub fn would_refuse(&mut self, op: &Op) -> Option<u32> { self.consider(op).0 }
-
-    fn consider(&mut self, op: &Op) -> (Option<u32>, Option<(System, Answer)>) {
-        zakuro_cpu::psr::set_default_word(self.default_status);
-        if let Some(n) = self.ask_before(op) { return (Some(n), None); }
+    /// the refusal document 01 asks for, 3 to 8, on the Rust's state, or what the Rust gives.
+    pub fn judge(&self, op: &Op) -> Judged {
+        let refused = |code: u32| Judged { answer: Answer { code, out: Out::Nothing }, after: None, odd: None };
+        zakuro_cpu::psr::set_default_word(self.status_after(op));
+        if let Some(n) = self.ask_before(op) { return refused(n); }
         match self.attempt(op) {
-            Tried::Done(sys, answer) => {
-                let h = checked::holdings(&sys);
+            Tried::Done(after, answer) => {
+                let sys = after.as_ref().unwrap_or(&self.sys);
                 if !matches!(op, Op::Fresh { .. }) {
-                    if !h.fit() { return (Some(7), None); }
-                    if h.next_handle > LAST_NEXT { return (Some(8), None); }
+                    let h = checked::holdings(sys);
+                    if !h.fit() { return refused(7); }
+                    if h.next_handle > LAST_NEXT { return refused(8); }
                 }
-                if sys.memory.outside != 0 { self.panics.push(format!("access outside the window: {op:?}")); }
-                (None, Some((sys, answer)))
+                let odd = (sys.memory.outside != 0).then(|| format!("access outside the window: {op:?}"));
+                Judged { answer, after, odd }
             }
             // question 7 comes before 8: the wrapping build shows what the state would hold
-            Tried::Overflow => (Some(if self.fits_wrapped(op) { 8 } else { 7 }), None),
-            Tried::Panic(text) => { self.panics.push(format!("{text}: {op:?}")); (Some(999), None) }
+            Tried::Overflow => refused(if self.fits_wrapped(op) { 8 } else { 7 }),
+            Tried::Panic(text) => Judged { odd: Some(format!("{text}: {op:?}")), ..refused(999) },
         }
     }
+
+    /// the default status word once the operation is accepted.
+    pub fn status_after(&self, op: &Op) -> u32 { if let Op::Fresh { status } = op { *status } else { self.default_status } }
+
+    /// the lent processor holds a call's arguments whether or not the call is refused.
+    pub fn lend(&mut self, op: &Op) { if let Op::Call { regs, .. } = op { self.sys.cpu.regs[..6].copy_from_slice(regs); } }
 
     fn fits_wrapped(&self, op: &Op) -> bool {
         let mut w = zakuro_core_wrap::System::new();
@@ -225,16 +246,12 @@ impl Oracle {
             Op::Hand(h) => self.hand(h),
             Op::Load(lines) => state::load(self, lines),
             _ => {
-                if let Op::Fresh { status } = op { self.default_status = *status; }
-                if let Op::Call { regs, .. } = op {
-                    // the lent processor holds the arguments whether or not the call is refused
-                    self.sys.cpu.regs[..6].copy_from_slice(regs);
-                }
-                return match self.consider(op) {
-                    (Some(n), _) => Answer { code: n, out: Out::Nothing },
-                    (None, Some((sys, answer))) => { self.sys = sys; answer }
-                    _ => unreachable!(),
-                };
+                self.default_status = self.status_after(op);
+                self.lend(op);
+                let judged = self.judge(op);
+                self.panics.extend(judged.odd);
+                if let Some(sys) = judged.after { self.sys = sys; }
+                return judged.answer;
             }
         }
         Answer { code: 0, out: Out::Nothing }
@@ -272,11 +289,11 @@ impl Oracle {
 
     pub fn free_list(&self) -> Vec<u32> {
         // last freed is reused first: from the end
-        serde::Serialize::get_field(&self.sys.kernel.objects, "free").unwrap().seq().iter().rev().map(|v| v.u() as u32 + 1).collect()
+        serde::part::<Vec<u32>>(&self.sys.kernel.objects, "free").iter().rev().map(|slot| slot + 1).collect()
     }
 
     /// slots the Rust's store has, live and freed.
-    pub fn slot_count(&self) -> usize { serde::Serialize::get_field(&self.sys.kernel.objects, "slots").unwrap().seq().len() }
+    pub fn slot_count(&self) -> usize { serde::Parts::part(&self.sys.kernel.objects, "slots").unwrap().count() }
 
     pub fn cpu_words(&self) -> [u32; 52] {
         let c = &self.sys.cpu;
@@ -363,74 +380,93 @@ impl Oracle {
     /// question 2 of document 01 on the Rust's state: what is unsound about it. Entries marked
     /// (habit) are not asked by question 2, but hold in every state reached from a fresh start.
     pub fn unsound(&self) -> Vec<String> {
-        let mut bad = Vec::new();
+        let mut all = Vec::new();
+        self.faults(true, &mut |fault| all.push(fault.to_string()));
+        all
+    }
+
+    /// the first entry of `unsound` that is no habit.
+    pub fn first_fault(&self) -> Option<String> {
+        let mut first = None;
+        self.faults(false, &mut |fault| { first.get_or_insert_with(|| fault.to_string()); });
+        first
+    }
+
+    /// only a fault becomes text, for the driver asks this after every operation.
+    fn faults(&self, habits: bool, bad: &mut dyn FnMut(std::fmt::Arguments)) {
         let k = &self.sys.kernel;
         let p = k.oracle_private();
         let h = checked::holdings(&self.sys);
-        if !h.fit() { bad.push(format!("holdings {h:?}")); }
+        if !h.fit() { bad(format_args!("holdings {h:?}")); }
         if let Some(c) = k.current_thread {
-            match k.threads.get(c as usize) { None => bad.push("current names no thread".into()), Some(t) if t.status == ThreadStatus::Dead => bad.push("current Dead".into()), _ => {} }
+            match k.threads.get(c as usize) { None => bad(format_args!("current names no thread")), Some(t) if t.status == ThreadStatus::Dead => bad(format_args!("current Dead")), _ => {} }
         }
-        let live: BTreeMap<u32, &KObject> = k.objects.iter().map(|(i, o)| (i.0, o)).collect();
-        let mut counts: BTreeMap<u32, u32> = live.keys().map(|&i| (i, 0)).collect();
-        let mut name = |what: String, o: u32, bad: &mut Vec<String>| match counts.get_mut(&o) { Some(c) => *c += 1, None => bad.push(format!("{what} names dead slot {o}")) };
+        let slots = self.slot_count();
+        let mut live: Vec<Option<&KObject>> = vec![None; slots];
+        for (i, o) in k.objects.iter() { live[i.0 as usize] = Some(o); }
+        let mut counts = vec![0u32; slots];
+        let mut name = |what: std::fmt::Arguments, o: u32, bad: &mut dyn FnMut(std::fmt::Arguments)| match live.get(o as usize) {
+            Some(Some(_)) => counts[o as usize] += 1,
+            _ => bad(format_args!("{what} names dead slot {o}")),
+        };
         for (i, t) in k.threads.iter().enumerate() {
-            if t.status == ThreadStatus::Running && k.current_thread != Some(i as u32) { bad.push(format!("T{i} Running, not current")); }
-            if t.status != ThreadStatus::WaitSync && !t.wait_objects.is_empty() { bad.push(format!("T{i} {} with a list", status(t.status))); }
-            if t.status != ThreadStatus::WaitArbiter && t.wait_address.is_some() { bad.push(format!("(habit) T{i} {} with a wait address", status(t.status))); }
-            if !t.status.is_blocked() && t.wakeup_at.is_some() { bad.push(format!("(habit) T{i} {} with a wake tick", status(t.status))); }
-            if t.status != ThreadStatus::WaitSync && t.wait_all { bad.push(format!("(habit) T{i} {} with wait_all", status(t.status))); }
-            if t.status == ThreadStatus::WaitSync && t.wait_result.is_some() { bad.push(format!("(habit) T{i} WaitSync with a result")); }
-            for o in &t.wait_objects { name(format!("T{i} list"), o.0, &mut bad); }
-            if t.id != i as u32 { bad.push(format!("T{i} id {}", t.id)); }
+            if t.status == ThreadStatus::Running && k.current_thread != Some(i as u32) { bad(format_args!("T{i} Running, not current")); }
+            if t.status != ThreadStatus::WaitSync && !t.wait_objects.is_empty() { bad(format_args!("T{i} {} with a list", status(t.status))); }
+            if habits {
+                if t.status != ThreadStatus::WaitArbiter && t.wait_address.is_some() { bad(format_args!("(habit) T{i} {} with a wait address", status(t.status))); }
+                if !t.status.is_blocked() && t.wakeup_at.is_some() { bad(format_args!("(habit) T{i} {} with a wake tick", status(t.status))); }
+                if t.status != ThreadStatus::WaitSync && t.wait_all { bad(format_args!("(habit) T{i} {} with wait_all", status(t.status))); }
+                if t.status == ThreadStatus::WaitSync && t.wait_result.is_some() { bad(format_args!("(habit) T{i} WaitSync with a result")); }
+            }
+            for o in &t.wait_objects { name(format_args!("T{i} list"), o.0, bad); }
+            if t.id != i as u32 { bad(format_args!("T{i} id {}", t.id)); }
         }
         // with no handle open too: the next create gives this one
-        if h.next_handle < 0x10000 { bad.push(format!("next handle {:x}", h.next_handle)); }
+        if h.next_handle < 0x10000 { bad(format_args!("next handle {:x}", h.next_handle)); }
         for (x, o) in k.handles.iter() {
-            name(format!("H{x:x}"), o.0, &mut bad);
-            if x < 0x10000 || x >= h.next_handle { bad.push(format!("H{x:x} out of range")); }
+            name(format_args!("H{x:x}"), o.0, bad);
+            if x < 0x10000 || x >= h.next_handle { bad(format_args!("H{x:x} out of range")); }
         }
         for (t, o) in &p.thread_objects {
-            name(format!("kept T{t}"), o.0, &mut bad);
-            if !matches!(live.get(&o.0), Some(KObject::Thread(x)) if x == t) { bad.push(format!("kept object of T{t} is something else")); }
+            name(format_args!("kept T{t}"), o.0, bad);
+            if !matches!(live.get(o.0 as usize), Some(Some(KObject::Thread(x))) if x == t) { bad(format_args!("kept object of T{t} is something else")); }
         }
         if let Some(o) = p.process_object {
-            name("process".into(), o.0, &mut bad);
-            if !matches!(live.get(&o.0), Some(KObject::Process)) { bad.push("process object is something else".into()); }
+            name(format_args!("process"), o.0, bad);
+            if !matches!(live.get(o.0 as usize), Some(Some(KObject::Process))) { bad(format_args!("process object is something else")); }
         }
-        for (o, c) in &counts {
-            let r = k.oracle_refcount(slot(o + 1));
-            if r != *c || r == 0 { bad.push(format!("slot {o} counted {r}, named {c}")); }
+        for (o, c) in counts.iter().enumerate().filter(|(o, _)| live[*o].is_some()) {
+            let r = k.oracle_refcount(slot(o as u32 + 1));
+            if r != *c || r == 0 { bad(format_args!("slot {o} counted {r}, named {c}")); }
         }
-        let free: Vec<u32> = self.free_list();
-        let fs: BTreeSet<u32> = free.iter().copied().collect();
         // freed slots exactly: none doubled, none live, none left out
-        let slots = self.slot_count();
-        if fs.len() != free.len() || fs.iter().any(|n| live.contains_key(&(n - 1)) || *n as usize > slots) || live.len() + free.len() != slots { bad.push("free list".into()); }
-        if slots > OBJECTS || k.pulsed.iter().any(|o| o.0 as usize >= OBJECTS) { bad.push("no such slot".into()); }
-        for (i, o) in &live {
+        let free: &Vec<u32> = serde::part(&k.objects, "free");
+        let mut seen = vec![false; slots];
+        let odd = free.iter().any(|&n| seen.get_mut(n as usize).is_none_or(|s| std::mem::replace(s, true)) || live[n as usize].is_some());
+        if odd || live.iter().flatten().count() + free.len() != slots { bad(format_args!("free list")); }
+        if slots > OBJECTS || k.pulsed.iter().any(|o| o.0 as usize >= OBJECTS) { bad(format_args!("no such slot")); }
+        for (i, o) in k.objects.iter().map(|(i, o)| (i.0, o)) {
             match o {
-                KObject::Timer(_) if !k.timers.iter().any(|t| t.0 == *i) => bad.push(format!("live timer {i} not in timers")),
+                KObject::Timer(_) if !k.timers.iter().any(|t| t.0 == i) => bad(format_args!("live timer {i} not in timers")),
                 KObject::Mutex(m) => {
                     if let Some(t) = m.owner {
-                        match k.threads.get(t as usize) { None => bad.push("owner missing".into()), Some(t) if t.status == ThreadStatus::Dead => bad.push(format!("mutex {i} owned by the dead")), _ => {} }
+                        match k.threads.get(t as usize) { None => bad(format_args!("owner missing")), Some(t) if t.status == ThreadStatus::Dead => bad(format_args!("mutex {i} owned by the dead")), _ => {} }
                     }
-                    if m.owner.is_some() != (m.lock_count > 0) { bad.push(format!("(habit) mutex {i} owner {:?} locks {}", m.owner, m.lock_count)); }
+                    if habits && m.owner.is_some() != (m.lock_count > 0) { bad(format_args!("(habit) mutex {i} owner {:?} locks {}", m.owner, m.lock_count)); }
                 }
-                KObject::AddressArbiter(a) => if a.waiters.iter().any(|(t, _)| *t as usize >= k.threads.len()) { bad.push("record names no thread".into()) },
+                KObject::AddressArbiter(a) => if a.waiters.iter().any(|(t, _)| *t as usize >= k.threads.len()) { bad(format_args!("record names no thread")) },
                 KObject::Thread(t) => {
-                    if *t as usize >= k.threads.len() { bad.push("object names no thread".into()); }
-                    if !p.thread_objects.iter().any(|(a, b)| a == t && b.0 == *i) { bad.push(format!("(habit) thread object {i} not kept")); }
+                    if *t as usize >= k.threads.len() { bad(format_args!("object names no thread")); }
+                    if habits && !p.thread_objects.iter().any(|(a, b)| a == t && b.0 == i) { bad(format_args!("(habit) thread object {i} not kept")); }
                 }
                 _ => {}
             }
         }
-        let mut used = BTreeSet::new();
+        let mut used: Vec<u32> = Vec::with_capacity(k.threads.len());
         for t in k.threads.iter().filter(|t| t.status != ThreadStatus::Dead) {
-            if !used.insert(t.tls) { bad.push("TLS twice".into()); }
+            if used.contains(&t.tls) { bad(format_args!("TLS twice")); } else { used.push(t.tls); }
         }
-        let rest: Vec<u32> = (0..p.next_tls_slot.min(THREADS as u32)).filter(|s| !used.contains(s)).collect();
-        if rest != p.free_tls || p.next_tls_slot > 32 || used.iter().any(|&s| s >= p.next_tls_slot) { bad.push(format!("TLS free {:?}", p.free_tls)); }
-        bad
+        let rest = (0..p.next_tls_slot.min(THREADS as u32)).filter(|s| !used.contains(s));
+        if !rest.eq(p.free_tls.iter().copied()) || p.next_tls_slot > 32 || used.iter().any(|&s| s >= p.next_tls_slot) { bad(format_args!("TLS free {:?}", p.free_tls)); }
     }
 }
