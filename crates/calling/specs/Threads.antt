@@ -117,7 +117,7 @@ exitThread-answers k = exit-accepted (k .«current_thread») k
 
 -- ---- `sleep_thread`
 -- a current thread that runs can run
-runs-as : (k : Kernel) (c : ThreadOption) → runsAs c k ≡ true → Runs (k .threads) c
+runs-as : (k : Kernel) (c : ThreadOption) → runsAs c (k .threads) ≡ true → Runs (k .threads) c
 runs-as k NoThread e = tt
 runs-as k (SomeThread c) e = running-runs (threadAt (k .threads) c .status) e
 

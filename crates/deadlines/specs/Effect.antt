@@ -61,11 +61,11 @@ running-in ts c e = live-in ts c (running-dead (threadAt ts c .status) e)
 -- a guest call is served only while the current thread runs (question 4), so a blocked thread is another one
 pub blocked-other : (k : Kernel) → runs? k ≡ true → (w : ℕ) → Blocked (k .threads) w → k .«current_thread» ≢ SomeThread w
 unfolding runs?
-blocked-other k e w b h = false-true (sym (running-status (threadAt (k .threads) w .status) (sym (ap (λ (o : ThreadOption). runsAs o k) h) ∙ e)) ∙ b)
+blocked-other k e w b h = false-true (sym (running-status (threadAt (k .threads) w .status) (sym (ap (λ (o : ThreadOption). runsAs o (k .threads)) h) ∙ e)) ∙ b)
 
 pub runs-current : (k : Kernel) → runs? k ≡ true → (c : ℕ) → k .«current_thread» ≡ SomeThread c → Runs k c
 unfolding runs?
-runs-current k e c h = sym (ap (λ (o : ThreadOption). runsAs o k) h) ∙ e
+runs-current k e c h = sym (ap (λ (o : ThreadOption). runsAs o (k .threads)) h) ∙ e
 
 -- numbers of threads are below 32
 pub current-place : (k : Kernel) → Parts k → runs? k ≡ true → (c : ℕ) → k .«current_thread» ≡ SomeThread c → c < 32

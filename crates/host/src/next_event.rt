@@ -1,6 +1,6 @@
 // The export that tells the next tick at which a pass is wanted.
-use lent::questions;
 use codec::Two;
+use lent::questions;
 use types::thread::TickOption;
 ghost use mathlib.Core.Path.{_≡_};
 ghost use mathlib.Core.List.{[]};

@@ -1,6 +1,6 @@
 // The export that tells what letting go of a mutex would do without a pass.
-use lent::questions;
 use codec::Two;
+use lent::questions;
 use pass::Release;
 ghost use mathlib.Core.Path.{_≡_};
 ghost use mathlib.Core.List.{[]};

@@ -1,6 +1,6 @@
 // The export that tells what a wait on a list of handles would find at once.
-use lent::questions;
 use codec::Two;
+use lent::questions;
 use pass::IndexOption;
 use pass::Satisfied;
 ghost use mathlib.Core.Path.{_≡_};

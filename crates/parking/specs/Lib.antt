@@ -5,3 +5,4 @@ pub mod Lists
 pub mod Begins
 pub mod Arbitrates
 pub mod Waits
+pub mod Calls

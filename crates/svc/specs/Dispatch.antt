@@ -7,6 +7,7 @@ use lib.ListN.{getD}
 use Rattle.laws.specs.Logic.{pick, _and_, _or_}
 use Rattle.types.specs.declared.thread.ThreadOption.{ThreadOption}
 use Rattle.types.specs.declared.thread.ThreadOption.the-variants.{NoThread, SomeThread}
+use Rattle.types.specs.declared.thread.Thread.{Thread}
 use Rattle.types.specs.declared.kernel.Kernel.{Kernel}
 use Rattle.sound.specs.View.{threadAt}
 use Rattle.pass.specs.Pick.{isRunning}
@@ -26,12 +27,12 @@ abbrev pub wordsRead : ℕ → Registers → ℕ
 wordsRead number r = pick (eqb number 0x25) (r .r2) (pick (eqb number 0x22 and (leb 1 (r .r2) and leb (r .r2) 4)) 1 0)
 
 -- question 4: there is a current thread, Running
-abbrev pub runsAs : ThreadOption → Kernel → Bool
-runsAs NoThread k = false
-runsAs (SomeThread c) k = isRunning (threadAt (k .threads) c .status)
+abbrev pub runsAs : ThreadOption → List Thread → Bool
+runsAs NoThread ts = false
+runsAs (SomeThread c) ts = isRunning (threadAt ts c .status)
 
 unfoldable pub runs? : Kernel → Bool
-runs? k = runsAs (k .«current_thread») k
+runs? k = runsAs (k .«current_thread») (k .threads)
 
 -- question 5: at most 8 handles
 unfoldable pub tooMany? : ℕ → Registers → Bool
@@ -55,30 +56,42 @@ refusal base len number r k =
     3
 
 -- ---- the calls; words are those read
-unfoldable pub call : ℕ → Kernel → Registers → List ℕ → ℕ → Served
-call number k r words tick =
-    pick (eqb number 0x08) (createThread k r)
-    (pick (eqb number 0x09) (exitThread k)
-    (pick (eqb number 0x0A) (sleepThread k r tick)
-    (pick (eqb number 0x0C) (setThreadPriority k r)
-    (pick (eqb number 0x13) (createMutex k r)
-    (pick (eqb number 0x14) (releaseMutex k r)
-    (pick (eqb number 0x15) (createSemaphore k r)
-    (pick (eqb number 0x16) (releaseSemaphore k r)
-    (pick (eqb number 0x17) (createEvent k r)
+abbrev pub handleCall : ℕ → Kernel → Registers → List ℕ → ℕ → Served
+handleCall number k r words tick =
+    pick (eqb number 0x21) (createAddressArbiter k)
+    (pick (eqb number 0x22) (arbitrateAddress k r (getD words 0 0) tick)
+    (pick (eqb number 0x23) (closeHandle k r)
+    (pick (eqb number 0x24) (waitSynchronization1 k r tick)
+    (pick (eqb number 0x25) (waitSynchronizationN k r words tick)
+    (pick (eqb number 0x27) (duplicateHandle k r)
+    (silent k))))))
+
+abbrev pub signalCall : ℕ → Kernel → Registers → List ℕ → ℕ → Served
+signalCall number k r words tick =
+    pick (eqb number 0x17) (createEvent k r)
     (pick (eqb number 0x18) (signalEvent k r)
     (pick (eqb number 0x19) (clearEvent k r)
     (pick (eqb number 0x1A) (createTimer k r)
     (pick (eqb number 0x1B) (setTimer k r tick)
     (pick (eqb number 0x1C) (cancelTimer k r tick)
     (pick (eqb number 0x1D) (clearTimer k r tick)
-    (pick (eqb number 0x21) (createAddressArbiter k)
-    (pick (eqb number 0x22) (arbitrateAddress k r (getD words 0 0) tick)
-    (pick (eqb number 0x23) (closeHandle k r)
-    (pick (eqb number 0x24) (waitSynchronization1 k r tick)
-    (pick (eqb number 0x25) (waitSynchronizationN k r words tick)
-    (pick (eqb number 0x27) (duplicateHandle k r)
-    (silent k)))))))))))))))))))))
+    (handleCall number k r words tick)))))))
+
+abbrev pub lockCall : ℕ → Kernel → Registers → List ℕ → ℕ → Served
+lockCall number k r words tick =
+    pick (eqb number 0x13) (createMutex k r)
+    (pick (eqb number 0x14) (releaseMutex k r)
+    (pick (eqb number 0x15) (createSemaphore k r)
+    (pick (eqb number 0x16) (releaseSemaphore k r)
+    (signalCall number k r words tick))))
+
+unfoldable pub call : ℕ → Kernel → Registers → List ℕ → ℕ → Served
+call number k r words tick =
+    pick (eqb number 0x08) (createThread k r)
+    (pick (eqb number 0x09) (exitThread k)
+    (pick (eqb number 0x0A) (sleepThread k r tick)
+    (pick (eqb number 0x0C) (setThreadPriority k r)
+    (lockCall number k r words tick))))
 
 -- the registers as the call may read them
 abbrev pub given : ℕ → Registers → Registers

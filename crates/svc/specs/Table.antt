@@ -4,19 +4,15 @@ use mathlib.Core.List.{List, [], _∷_}
 use Prim.Native.Nat.{ℕ, _/_, _%_}
 use lib.Dec.{eqb}
 use Rattle.laws.specs.Logic.{pick, _or_}
+use Rattle.svc.specs.declared.CallRow.{CallRow}
 use Rattle.svc.specs.declared.Registers.{Registers}
 use Rattle.svc.specs.declared.WordOption.{WordOption}
 use Rattle.svc.specs.declared.WordOption.the-variants.{NoWord, SomeWord}
 
-pub record Row : Type 0 where
-  pub number : ℕ
-  pub reads : ℕ
-  pub writes : ℕ
-
-abbrev pub row : ℕ → ℕ → ℕ → Row
+abbrev pub row : ℕ → ℕ → ℕ → CallRow
 row n r w = record { number = n; reads = r; writes = w }
 
-unfoldable pub table : List Row
+unfoldable pub table : List CallRow
 table =
     -- CreateThread reads r0 to r4
     row 0x08 0x1F 0x03 ∷
@@ -63,14 +59,14 @@ table =
     []
 
 -- the row of a call number; a number that is not in the table reads and writes nothing
-unfoldable pub rowIn : List Row → ℕ → Row
+unfoldable pub rowIn : List CallRow → ℕ → CallRow
 rowIn [] n = row n 0 0
 rowIn (r ∷ rs) n = pick (eqb (r .number) n) r (rowIn rs n)
 
-unfoldable pub rowOf : ℕ → Row
+unfoldable pub rowOf : ℕ → CallRow
 rowOf n = rowIn table n
 
-unfoldable pub knownIn : List Row → ℕ → Bool
+unfoldable pub knownIn : List CallRow → ℕ → Bool
 knownIn [] n = false
 knownIn (r ∷ rs) n = eqb (r .number) n or knownIn rs n
 

@@ -11,6 +11,13 @@ pub struct Registers {
     pub r5: u32,
 }
 
+// A row of the call table: the registers that a call reads and those that it may write, bit i for register i.
+pub struct CallRow {
+    pub number: u32,
+    pub reads: u32,
+    pub writes: u32,
+}
+
 // A word that is written, or none.
 pub enum WordOption {
     NoWord,
