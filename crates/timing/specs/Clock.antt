@@ -18,7 +18,8 @@ use Rattle.sound.specs.Records.{chainOf, has?}
 use Rattle.kernel.specs.NextEvent.{dueOf}
 use Rattle.object.specs.Slots.{withObject, content}
 use Rattle.object.specs.Store.{isFree, addRef, addRefs}
-use Rattle.object.specs.Waiters.{withHead, retain, ofOthers, dropThread, isArbiter, pushed, push}
+use Rattle.object.specs.declared.waiters.Links.{Links}
+use Rattle.object.specs.Waiters.{withHead, unlinked, relinked, retain, ofOthers, dropThread, isArbiter, pushed, push}
 use Rattle.thread.specs.Threads.{disowned, disown}
 use Rattle.soundness.specs.Slots.{pick-both, slot-f, slot-other, slot-same}
 use Rattle.soundness.specs.Objects.{slotAt-map}
@@ -75,10 +76,14 @@ acquired-clock (AddressArbiter a) w = refl
 acquired-clock Process w = refl
 acquired-clock ResourceLimit w = refl
 
+pub acquire-clock : (s : ObjectStore) (r w o : ℕ) → clockAt (acquire s r w) o ≡ clockAt s o
+unfolding acquire
+acquire-clock s r w o = content-clock s r (acquired (objectAt s r) w) (acquired-clock (objectAt s r) w) o
+
 pub acquires-clock : (os : List ℕ) (s : ObjectStore) (w o : ℕ) → clockAt (acquires s os w) o ≡ clockAt s o
-unfolding acquires acquire
+unfolding acquires
 acquires-clock [] s w o = refl
-acquires-clock (r ∷ os) s w o = acquires-clock os (acquire s r w) w o ∙ content-clock s r (acquired (objectAt s r) w) (acquired-clock (objectAt s r) w) o
+acquires-clock (r ∷ os) s w o = acquires-clock os (acquire s r w) w o ∙ acquire-clock s r w o
 
 quieted-clock : (x : KObject) → clockOf (quieted x) ≡ clockOf x
 quieted-clock (Free n) = refl
@@ -167,9 +172,12 @@ head-clock (AddressArbiter a) n = refl
 head-clock Process n = refl
 head-clock ResourceLimit n = refl
 
+pub relinked-clock : (s : ObjectStore) (r : ℕ) (u : Links) (o : ℕ) → clockAt (relinked s r u) o ≡ clockAt s o
+relinked-clock s r u o = slot-f clockIn (s .slots) r _ o (head-clock (objectAt s r) _)
+
 pub retain-clock : (keep : ℕ → Bool) (s : ObjectStore) (r o : ℕ) → clockAt (retain keep s r) o ≡ clockAt s o
 unfolding retain
-retain-clock keep s r o = slot-f clockIn (s .slots) r _ o (head-clock (objectAt s r) _)
+retain-clock keep s r o = relinked-clock s r (unlinked keep s r) o
 
 pub push-clock : (s : ObjectStore) (r t a o : ℕ) → clockAt (push s r t a) o ≡ clockAt s o
 unfolding push

@@ -76,7 +76,7 @@ module _ (tick : ℕ) where
   fire-clock s o = ap clockIn (map-at (firedSlot tick) refl (s .slots) o) ∙ fired-clock (slotAt (s .slots) o)
 
 -- ---- `catch_up_timers` fires too, if any timer is due; what it loses is no part of a clock
-lost-object : (x : KObject) → clockOf (lostObject x) ≡ clockOf x
+pub lost-object : (x : KObject) → clockOf (lostObject x) ≡ clockOf x
 lost-object (Free n) = refl
 lost-object (Thread u) = refl
 lost-object (Event e) = refl

@@ -114,16 +114,19 @@ end-keeps k t o =
     keeps-then (k .objects) (releases (k .objects) r) (disown (releases (k .objects) r) t) o (releases-keeps r (k .objects) o) (λ h. disown-clock (releases (k .objects) r) t o)
 
 -- ---- the first free slot is free, and there is no object 0
-first-free : (s : ObjectStore) (f : ℕ → ℕ) → ObOk s f → kindNumber (objectAt s (s .free)) ≡ 0
+abbrev pub FirstFree : ObjectStore → Type 0
+FirstFree s = kindNumber (objectAt s (s .free)) ≡ 0
+
+pub first-free : (s : ObjectStore) (f : ℕ → ℕ) → ObOk s f → FirstFree s
 unfolding slotAt
 first-free s f h = elim (lt-cases 0 (s .free)) [ inl l ↦ free-kind s f h l | inr l ↦ let e : s .free ≡ 0 = omega arith in ap (λ (r : ℕ). kindNumber (objectAt s r)) e ]
 
 -- ---- a new object takes a free slot: what is in use before it has the clock that it had
-pub insert-clock : (s : ObjectStore) (v : KObject) (f : ℕ → ℕ) → ObOk s f → (o : ℕ) → 0 < clockAt s o .kind → clockAt (insert s v) o ≡ clockAt s o
+pub insert-clock : (s : ObjectStore) (v : KObject) → FirstFree s → (o : ℕ) → 0 < clockAt s o .kind → clockAt (insert s v) o ≡ clockAt s o
 unfolding insert
-insert-clock s v f h o p =
+insert-clock s v f o p =
     elim (slot-cases (s .slots) (s .free) (record { object = v; refcount = 1; pulsed = slotAt (s .slots) (s .free) .pulsed }) o) [
-      | inl e ↦ absurd (let z : clockAt s o .kind ≡ 0 = ap (λ (r : ℕ). clockAt s r .kind) (e .0) ∙ first-free s f h in omega arith)
+      | inl e ↦ absurd (let z : clockAt s o .kind ≡ 0 = ap (λ (r : ℕ). clockAt s r .kind) (e .0) ∙ f in omega arith)
       | inr e ↦ ap clockIn e
     ]
 

@@ -1,0 +1,34 @@
+-- Operations one after the other, each on the state that the last one left.
+use mathlib.Core.Path.{_≡_}
+use mathlib.Core.Bool.{Bool, true, false}
+use mathlib.Core.List.{List, [], _∷_}
+use Prim.Native.Nat.{ℕ, _<_}
+use Rattle.types.specs.declared.kernel.Kernel.{Kernel}
+use Rattle.sound.specs.Sound.{Sound}
+use Rattle.svc.specs.declared.Registers.{Registers}
+use Rattle.svc.specs.Dispatch.{runs?}
+use Rattle.demand.specs.Words.{Doing, starts, creates, passes, looks, ends, calls, collects, effect, Event}
+
+-- what holds of the state before an accepted operation: question 2, and question 4 of a guest call; ticks are 64-bit numbers
+abbrev pub Asked : Doing → Kernel → Type 0
+Asked (starts word) k = Unit {0}
+Asked (creates entry stack priority processor) k = Sound k
+Asked (passes tick) k = Sound k × (tick < 18446744073709551616)
+Asked looks k = Sound k
+Asked (ends t) k = Sound k
+Asked (calls number r words tick) k = Sound k × (runs? k ≡ true) × (tick < 18446744073709551616)
+Asked collects k = Sound k
+
+-- an operation that was refused left the state, and one that was accepted did what it does, on a sound state, and left one
+pub record Real (e : Event) : Type 0 where
+  pub refused : e .accepted ≡ false → e .after ≡ e .before
+  pub asked : e .accepted ≡ true → Asked (e .does) (e .before)
+  pub did : e .accepted ≡ true → e .after ≡ effect (e .does) (e .before)
+  pub sound : e .accepted ≡ true → Sound (e .after)
+
+abbrev pub Course : Kernel → List Event → Type 0
+Course k [] = Unit {0}
+Course k (e ∷ es) = (e .before ≡ k) × Real e × Course (e .after) es
+
+abbrev pub event : Bool → Kernel → Doing → Kernel → Event
+event a k d m = record { accepted = a; before = k; does = d; after = m }

@@ -1,0 +1,124 @@
+-- A wait ends by time-out exactly at the first accepted pass from its wake tick on, if nothing was given by then.
+use mathlib.Core.Path.{_≡_, refl, ap, sym, subst, _∙_}
+use mathlib.Core.Bool.{Bool, true, false}
+use mathlib.Core.Logic.{_≢_}
+use mathlib.Core.List.{List, [], _∷_}
+use Prim.Native.Nat.{ℕ, zero, suc, _<_}
+use native.Mathlib.Omega.{arith}
+use lib.Dec.{eqb, leb}
+use borrow.Author.Tests.{eqb-false, le-leb, lt-leb}
+use Rattle.laws.specs.Logic.{_and_, false-true}
+use Rattle.types.specs.declared.thread.ThreadStatus.{ThreadStatus}
+use Rattle.types.specs.declared.thread.ThreadStatus.the-variants.{Dead, Running, Ready, Sleeping, WaitSync, WaitArbiter, Dormant}
+use Rattle.types.specs.declared.thread.TickOption.{TickOption}
+use Rattle.types.specs.declared.thread.TickOption.the-variants.{SomeTick}
+use Rattle.types.specs.declared.kernel.Kernel.{Kernel}
+use Rattle.types.specs.Thread.{isBlocked}
+use Rattle.sound.specs.View.{threadAt}
+use Rattle.sound.specs.Sound.{Sound}
+use Rattle.soundness.specs.Whole.{Parts, sound-parts}
+use Rattle.kernel.specs.NextEvent.{contains}
+use Rattle.pass.specs.Pick.{isRunnable}
+use Rattle.svc.specs.declared.Registers.{Registers}
+use Rattle.svc.specs.Dispatch.{runs?}
+use Rattle.demand.specs.Words.{Doing, starts, creates, passes, looks, ends, calls, collects, effect, Event, strikes?, Spared, wakes, given?, pass?, passFrom?, TimesOut, FirstPass, NotGiven, OnTime}
+use Rattle.timing.specs.Wait.{Wait, waitOf, Blocked, blocked-in}
+use Rattle.timing.specs.Others.{create-other, end-other}
+use Rattle.timing.specs.Ends as one
+use Rattle.deadlines.specs.Ends.{call-runnable, call-waits}
+use Rattle.deadlines.specs.Collect.{collect-waits}
+use Rattle.course.specs.Course.{Asked, Real, Course, event}
+
+-- thread τ is in a wait that runs out at w
+pub record InWait (τ w : ℕ) (k : Kernel) : Type 0 where
+  pub is : Blocked (k .threads) τ
+  pub wake : threadAt (k .threads) τ .«wakeup_at» ≡ SomeTick (record { 0 = w })
+
+in-as : (τ w : ℕ) (k m : Kernel) → waitOf (threadAt (m .threads) τ) ≡ waitOf (threadAt (k .threads) τ) → InWait τ w k → InWait τ w m
+in-as τ w k m e p = record { is = ap (λ (x : Wait). isBlocked (x .status)) e ∙ p .is; wake = ap (λ (x : Wait). x .wake) e ∙ p .wake }
+
+runnable-blocked : (s : ThreadStatus) → isRunnable s ≡ true → isBlocked s ≡ false
+runnable-blocked Dead e = refl
+runnable-blocked Running e = refl
+runnable-blocked Ready e = refl
+runnable-blocked Sleeping e = sym e
+runnable-blocked WaitSync e = sym e
+runnable-blocked WaitArbiter e = sym e
+runnable-blocked Dormant e = refl
+
+-- ---- one operation: the wait goes on, runs out, or the thread is given what it waited for
+pub data Fated (τ w : ℕ) (e : Event) : Type 0 where
+  stays : InWait τ w (e .after) → passFrom? w e ≡ false → given? τ e ≡ false → Fated τ w e
+  out : isBlocked (threadAt (e .after .threads) τ .status) ≡ false → pass? e ≡ true → passFrom? w e ≡ true → given? τ e ≡ false → Fated τ w e
+  gets : isBlocked (threadAt (e .after .threads) τ .status) ≡ false → given? τ e ≡ true → Fated τ w e
+
+module _ (τ w : ℕ) (k : Kernel) (p : InWait τ w k) where
+  passed : (tick : ℕ) → one.Ends k tick τ (record { 0 = w }) → Fated τ w (event true k (passes tick) (effect (passes tick) k))
+  unfolding _and_
+  passed tick (one.goes-on e g l) = stays (in-as τ w k _ e p) (lt-leb w tick l) g
+  passed tick (one.runs-out e g l) = out (runnable-blocked (threadAt (effect (passes tick) k .threads) τ .status) e) refl (le-leb w tick l) g
+  passed tick (one.gets e g) = gets (runnable-blocked (threadAt (effect (passes tick) k .threads) τ .status) e) g
+
+  called : (number : ℕ) (r : Registers) (words : List ℕ) (tick : ℕ) → Sound k → runs? k ≡ true → (q : Bool) → contains (wakes number k r) τ ≡ q
+      → Fated τ w (event true k (calls number r words tick) (effect (calls number r words tick) k))
+  unfolding _and_
+  called number r words tick s g true e = gets (runnable-blocked (threadAt (effect (calls number r words tick) k .threads) τ .status) (call-runnable number k r words tick (sound-parts k s) τ e)) e
+  called number r words tick s g false e = stays (in-as τ w k _ (call-waits number k r words tick (sound-parts k s) g τ (p .is) e) p) refl e
+
+  did : (d : Doing) → Asked d k → strikes? τ d k ≡ false → Fated τ w (event true k d (effect d k))
+  unfolding _and_
+  did (starts word) a s = false-true (sym s)
+  did (creates entry stack priority processor) a s = stays (in-as τ w k _ (ap waitOf (create-other k entry stack priority processor (sound-parts k a) τ (p .is))) p) refl refl
+  did (passes tick) a s =
+      let l : τ < 32 = omega (arith, blocked-in (k .threads) τ (p .is), sound-parts k (a .0) .nt) in
+      passed tick (one.pass-end k tick τ l (p .is) (record { 0 = w }) (p .wake))
+  did looks a s = stays p refl refl
+  did (ends t) a s = stays (in-as τ w k _ (ap waitOf (end-other k t τ (λ e. eqb-false t τ s (sym e)))) p) refl refl
+  did (calls number r words tick) a s = called number r words tick (a .0) (a .1) (contains (wakes number k r) τ) refl
+  did collects a s = stays (in-as τ w k _ (collect-waits k τ) p) refl refl
+
+  fated-as : (a : Bool) (d : Doing) (m : Kernel) → (a ≡ false → m ≡ k) → (a ≡ true → Asked d k) → (a ≡ true → m ≡ effect d k) → a and strikes? τ d k ≡ false
+      → Fated τ w (event a k d m)
+  unfolding _and_
+  fated-as false d m r q f s = subst (λ (x : Kernel). Fated τ w (event false k d x)) (sym (r refl)) (stays p refl refl)
+  fated-as true d m r q f s = subst (λ (x : Kernel). Fated τ w (event true k d x)) (sym (f refl)) (did d (q refl) s)
+
+-- ---- over every list
+not-both : {A : Type 0} {q : Bool} → q ≡ true → q ≡ false → A
+not-both e f = false-true (sym f ∙ e)
+
+module _ (τ w : ℕ) (e : Event) (es : List Event) where
+  fated : Fated τ w e → (InWait τ w (e .after) → OnTime τ w es) → OnTime τ w (e ∷ es)
+  fated (stays p f g) ih = record { only = only; must = must }
+    where
+      only : (i : ℕ) → TimesOut τ (e ∷ es) i → FirstPass w (e ∷ es) i × NotGiven τ (e ∷ es) i
+      only zero x = not-both (p .is) (x .0)
+      only (suc i) x = let r = ih p .only i (x .1) in ((f, r .0), (g, r .1))
+
+      must : (i : ℕ) → FirstPass w (e ∷ es) i → NotGiven τ (e ∷ es) i → TimesOut τ (e ∷ es) i
+      must zero x y = not-both x f
+      must (suc i) x y = (p .is, ih p .must i (x .1) (y .1))
+  fated (out bl pa on g) ih = record { only = only; must = must }
+    where
+      only : (i : ℕ) → TimesOut τ (e ∷ es) i → FirstPass w (e ∷ es) i × NotGiven τ (e ∷ es) i
+      only zero x = (on, g)
+      only (suc i) x = not-both (x .0) bl
+
+      must : (i : ℕ) → FirstPass w (e ∷ es) i → NotGiven τ (e ∷ es) i → TimesOut τ (e ∷ es) i
+      must zero x y = (bl, pa, g)
+      must (suc i) x y = not-both on (x .0)
+  fated (gets bl g) ih = record { only = only; must = must }
+    where
+      only : (i : ℕ) → TimesOut τ (e ∷ es) i → FirstPass w (e ∷ es) i × NotGiven τ (e ∷ es) i
+      only zero x = not-both g (x .2)
+      only (suc i) x = not-both (x .0) bl
+
+      must : (i : ℕ) → FirstPass w (e ∷ es) i → NotGiven τ (e ∷ es) i → TimesOut τ (e ∷ es) i
+      must zero x y = not-both g y
+      must (suc i) x y = not-both g (y .0)
+
+pub on-time : (τ w : ℕ) (k : Kernel) (es : List Event) → Course k es → InWait τ w k → Spared τ es → OnTime τ w es
+on-time τ w k [] c p s = record { only = λ i x. absurd x; must = λ i x y. x }
+on-time τ w k (e ∷ es) c p s =
+    let q : InWait τ w (e .before) = subst (InWait τ w) (sym (c .0)) p in
+    fated τ w e es (fated-as τ w (e .before) q (e .accepted) (e .does) (e .after) (c .1 .refused) (c .1 .asked) (c .1 .did) (s .0)) (λ r. on-time τ w (e .after) es (c .2) r (s .1))
