@@ -10,11 +10,15 @@ use Rattle.laws.specs.All.{All}
 use Rattle.types.specs.declared.thread.ThreadOption.the-variants.{NoThread, SomeThread}
 use Rattle.sound.specs.View.{slotAt}
 use Rattle.object.specs.Slots.{slotPut, content}
+use Rattle.object.specs.Handles.{placeOf, objectOf}
+use Rattle.object.specs.Kept.{resolve}
+use Rattle.kernel.specs.NextEvent.{contains}
 use Rattle.pass.specs.Signal.{acquire, acquires}
-use Rattle.pass.specs.Timers.{anyOver, fireTimers}
+use Rattle.pass.specs.Timers.{anyOver, fireTimers, timerDue, catchUpTimers}
 use Rattle.pass.specs.Waits.{allSignaled, firstSignaled}
 use Rattle.pass.specs.Pick.{leastPriority, firstFrom, pickNext}
-use Rattle.cases.specs.Ask.{Ask, ticks, fired, lead, picks, waits, takes, answer}
+use Rattle.svc.specs.Waits.{resolveAll, resolveStore, waitSynchronizationN}
+use Rattle.cases.specs.Ask.{Ask, ticks, fired, lead, picks, waits, answer}
 
 pub record Row : Type 0 where
   pub ask : Ask
@@ -39,10 +43,11 @@ table =
     ∷ (picks (5 ∷ 3 ∷ 3 ∷ []) NoThread false gives 1 ∷ [])
     ∷ (picks (5 ∷ 3 ∷ 3 ∷ []) (SomeThread 2) false gives 1 ∷ [])
     ∷ (picks (5 ∷ 3 ∷ 3 ∷ []) (SomeThread 2) true gives 2 ∷ [])
-    ∷ (waits true [] gives 0 ∷ [])
-    ∷ (waits false [] gives [])
-    -- satisfied at index 0, and the count is one below 0
-    ∷ (takes 1 true (1 ∷ 1 ∷ []) gives 0 ∷ 4294967295 ∷ [])
+    -- a wait for all of no handles: done, index 0; a wait for any of none with a time-out of 0: 17
+    ∷ (waits 1 true [] 0 gives 0 ∷ 0 ∷ 1 ∷ [])
+    ∷ (waits 1 false [] 0 gives 17 ∷ 1 ∷ [])
+    -- done with index 0, and the count is one below 0
+    ∷ (waits 1 true (0x10000 ∷ 0x10000 ∷ []) 0 gives 0 ∷ 0 ∷ 4294967295 ∷ [])
     ∷ []
 
 -- ---- the test
@@ -57,7 +62,7 @@ hold? [] = true
 hold? (r ∷ rs) = same? (answer (r .ask)) (r .want) and hold? rs
 
 tested : hold? table ≡ true
-unfolding hold? same? answer slotAt slotPut content acquire acquires anyOver fireTimers allSignaled firstSignaled leastPriority firstFrom pickNext _and_ _or_
+unfolding hold? same? answer slotAt slotPut content acquire acquires anyOver fireTimers timerDue catchUpTimers allSignaled firstSignaled leastPriority firstFrom pickNext placeOf objectOf resolve resolveAll resolveStore contains waitSynchronizationN _and_ _or_
 tested = refl
 
 -- ---- what it tells
