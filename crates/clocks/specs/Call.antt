@@ -11,6 +11,7 @@ use Rattle.types.specs.declared.object.ObjectStore.{ObjectStore}
 use Rattle.types.specs.declared.kernel.Kernel.{Kernel}
 use Rattle.sound.specs.Sound.{Sound}
 use Rattle.soundness.specs.Whole.{Parts, sound-parts}
+use Rattle.soundness.specs.Slots.{pick-if}
 use Rattle.svc.specs.declared.Registers.{Registers}
 use Rattle.svc.specs.declared.Served.{Served}
 use Rattle.svc.specs.Call.{silent}
@@ -32,11 +33,6 @@ use Rattle.clocks.specs.Timers.{createTimer-clock, setTimer-clock, cance
 use Rattle.clocks.specs.Arbiter.{createAddressArbiter-clock, arbitrateAddress-clock}
 use Rattle.clocks.specs.Handles.{closeHandle-clock, duplicateHandle-clock}
 use Rattle.clocks.specs.Waits.{waitSynchronization1-clock, waitSynchronizationN-clock}
-
--- by the cases of a test
-by-test : {A : Type 0} (P : A → Type 0) (b : Bool) (x y : A) → (b ≡ true → P x) → (b ≡ false → P y) → P (pick b x y)
-by-test P true x y f g = f refl
-by-test P false x y f g = g refl
 
 module _ (number : ℕ) (k : Kernel) (r : Registers) (words : List ℕ) (tick : ℕ) where
   -- ---- the calls from a number on, as `call` goes through them
@@ -128,11 +124,11 @@ module _ (number : ℕ) (k : Kernel) (r : Registers) (words : List ℕ) (tick : 
     -- the call n, which leaves v, or else those after it
     if-rests : (n : ℕ) (v rest : Served) → fires? n ≡ false → (Sound (v .kernel) → Open o (v .kernel) → clockAt (v .kernel .objects) o ≡ clockAt (k .objects) o)
         → (eqb number n ≡ false → Does rest) → Does (pick (eqb number n) v rest)
-    if-rests n v rest q f next = by-test Does (eqb number n) v rest (λ e. rests (ap fires? (eqb-true number n e) ∙ q) v f) next
+    if-rests n v rest q f next = pick-if Does (eqb number n) v rest (λ e. rests (ap fires? (eqb-true number n e) ∙ q) v f) next
 
     if-fires : (n : ℕ) (v rest : Served) → fires? n ≡ true → (eqb number n ≡ true → Sound (v .kernel) → clockAt (v .kernel .objects) o ≡ firedClock tick (clockAt (k .objects) o))
         → (eqb number n ≡ false → Does rest) → Does (pick (eqb number n) v rest)
-    if-fires n v rest q f next = by-test Does (eqb number n) v rest (λ e. fires (ap fires? (eqb-true number n e) ∙ q) v (f e)) next
+    if-fires n v rest q f next = pick-if Does (eqb number n) v rest (λ e. fires (ap fires? (eqb-true number n e) ∙ q) v (f e)) next
 
     -- a call that sets or cancels names another object
     other : eqb number 0x1B or eqb number 0x1C ≡ true → eqb (target k r tick) o ≡ false

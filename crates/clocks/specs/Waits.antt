@@ -11,17 +11,12 @@ use Rattle.types.specs.declared.thread.ThreadOption.the-variants.{NoThread, Som
 use Rattle.types.specs.declared.thread.TickOption.{TickOption}
 use Rattle.types.specs.declared.thread.WaitSyscall.{WaitSyscall}
 use Rattle.types.specs.declared.thread.WaitSyscall.the-variants.{WaitSynchronization1, WaitSynchronizationN}
-use Rattle.types.specs.declared.object.HandleTable.{HandleTable}
 use Rattle.types.specs.declared.object.ObjectStore.{ObjectStore}
 use Rattle.types.specs.declared.kernel.Kernel.{Kernel}
 use Rattle.units.specs.declared.ObjectId.{ObjectId}
 use Rattle.sound.specs.View.{ids, objectAt}
-use Rattle.object.specs.declared.kept.Resolved.{Resolved}
-use Rattle.object.specs.Slots.{content}
-use Rattle.object.specs.Kept.{resolve}
 use Rattle.kernel.specs.NextEvent.{contains}
 use Rattle.soundness.specs.Slots.{pick-both}
-use Rattle.soundness.specs.Kept.{resolve-full}
 use Rattle.soundness.specs.Fine.{addRefs-full}
 use Rattle.soundness.specs.Whole.{Parts}
 use Rattle.pass.specs.declared.IndexOption.{IndexOption}
@@ -36,8 +31,10 @@ use Rattle.svc.specs.declared.Served.{Served}
 use Rattle.svc.specs.Call.{withObjects, pair, resolved}
 use Rattle.svc.specs.Timers.{caughtUp}
 use Rattle.svc.specs.Waits.{waitTime, waitOn, waitUnless, wait1As, waitSynchronization1, resolveAll, resolveStore, takeAt, waitNAs, waitSynchronizationN}
-use Rattle.calling.specs.Resolves.{resolve-overflow, resolved-parts}
+use Rattle.calling.specs.Resolves.{resolved-parts}
 use Rattle.calling.specs.Timers.{caught-parts}
+use Rattle.parking.specs.Lists.{store-full, store-overflow}
+use Rattle.parking.specs.Begins.{acquire-full, acquires-full}
 use Rattle.timing.specs.Clock.{clockAt, acquire-clock, acquires-clock, addRefs-clock}
 use Rattle.timing.specs.Fires.{firedClock, catch-clock}
 use Rattle.timing.specs.Keeps.{FirstFree}
@@ -51,15 +48,6 @@ record Leaves (s s′ : ObjectStore) : Type 0 where
 
 leaves-same : (s : ObjectStore) → Leaves s s
 leaves-same s = record { full = λ e. e; overflow = λ e. e; clock = λ o. refl }
-
-acquire-full : (s : ObjectStore) (r w : ℕ) → acquire s r w .full ≡ s .full
-unfolding acquire content
-acquire-full s r w = refl
-
-acquires-full : (os : List ℕ) (s : ObjectStore) (w : ℕ) → acquires s os w .full ≡ s .full
-unfolding acquires
-acquires-full [] s w = refl
-acquires-full (r ∷ os) s w = acquires-full os (acquire s r w) w ∙ acquire-full s r w
 
 acquire-leaves : (s : ObjectStore) (r w : ℕ) → Leaves s (acquire s r w)
 acquire-leaves s r w = record { full = λ e. sym (acquire-full s r w) ∙ e; overflow = acquire-sticks s r w; clock = acquire-clock s r w }
@@ -108,27 +96,7 @@ module _ (k : Kernel) (f : FirstFree (k .objects)) (o : ℕ) (u : Used (k .objec
       pick-both (λ (v : Served). clockAt (v .kernel .objects) o ≡ clockAt s o) (eqb q 0) _ _ refl
       (one-leaves (c .«current_thread») (withObjects c s) q (pair (r .r2) (r .r3)) tick .clock o) ∙ caught-resolved k f o u tick (r .r0)
 
--- ---- a list of handles resolved, one after the other: the store is not full after, so it was not before
-store-if : (b : Bool) (s s′ : ObjectStore) → (s′ .full ≡ false → s .full ≡ false) → pick b s s′ .full ≡ false → s .full ≡ false
-store-if true s s′ h e = e
-store-if false s s′ h e = h e
-
-module _ (c : ThreadOption) (t : HandleTable) where
-  store-full : (hs : List ℕ) (s : ObjectStore) → resolveStore c t s hs .full ≡ false → s .full ≡ false
-  unfolding resolveStore
-  store-full [] s e = e
-  store-full (h ∷ hs) s e =
-      let x : Resolved = resolve c t s h in
-      resolve-full c t s h (store-if (eqb (x .object .0) 0) (x .store) (resolveStore c t (x .store) hs) (store-full hs (x .store)) e)
-
-  store-overflow : (hs : List ℕ) (s : ObjectStore) → resolveStore c t s hs .overflow ≡ s .overflow
-  unfolding resolveStore
-  store-overflow [] s = refl
-  store-overflow (h ∷ hs) s =
-      let x : Resolved = resolve c t s h in
-      pick-both (λ (y : ObjectStore). y .overflow ≡ s .overflow) (eqb (x .object .0) 0) (x .store) (resolveStore c t (x .store) hs) (resolve-overflow c t s h)
-      (store-overflow hs (x .store) ∙ resolve-overflow c t s h)
-
+-- ---- a list of handles resolved, one after the other
 abbrev allStore : Kernel → List ℕ → ObjectStore
 allStore k hs = resolveStore (k .«current_thread») (k .handles) (k .objects) hs
 

@@ -9,6 +9,7 @@ use borrow.Author.Tests.{eqb-true}
 use Rattle.laws.specs.Logic.{pick, pick-no, _and_, _or_}
 use Rattle.types.specs.declared.kernel.Kernel.{Kernel}
 use Rattle.types.specs.Sync.{arbitrationFromRaw}
+use Rattle.soundness.specs.Slots.{pick-if}
 use Rattle.soundness.specs.Whole.{Parts}
 use Rattle.svc.specs.declared.Registers.{Registers}
 use Rattle.svc.specs.declared.Served.{Served}
@@ -44,10 +45,6 @@ kind-timed n e = go (eqb n 3) refl e
     go : (q : Bool) → eqb n 3 ≡ q → q or eqb n 4 ≡ true → timedKind (arbitrationFromRaw n) ≡ true
     go true f g = ap (λ (m : ℕ). timedKind (arbitrationFromRaw m)) (eqb-true n 3 f)
     go false f g = ap (λ (m : ℕ). timedKind (arbitrationFromRaw m)) (eqb-true n 4 g)
-
-pick-if : {A : Type 0} (P : A → Type 0) (q : Bool) (a b : A) → (q ≡ true → P a) → (q ≡ false → P b) → P (pick q a b)
-pick-if P true a b f g = f refl
-pick-if P false a b f g = g refl
 
 module _ (k : Kernel) (r : Registers) (tick : ℕ) where
   -- the four that may park

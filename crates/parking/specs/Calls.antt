@@ -9,6 +9,7 @@ use lib.ListN.{length, getD}
 use Rattle.laws.specs.Logic.{pick}
 use Rattle.types.specs.declared.kernel.Kernel.{Kernel}
 use Rattle.sound.specs.Sound.{Sound}
+use Rattle.soundness.specs.Slots.{pick-both, pick-if}
 use Rattle.svc.specs.declared.Registers.{Registers}
 use Rattle.svc.specs.declared.Served.{Served}
 use Rattle.svc.specs.Call.{silent}
@@ -28,10 +29,6 @@ use Rattle.calling.specs.Handles.{closeHandle-sound, closeHandle-answers, dupli
 use Rattle.parking.specs.Arbitrates.{arbitrateAddress-sound, arbitrateAddress-answers}
 use Rattle.parking.specs.Waits.{waitSynchronization1-sound, waitSynchronization1-answers, waitSynchronizationN-sound, waitSynchronizationN-answers}
 
-pick-if : {A : Type 0} (P : A → Type 0) (q : Bool) (a b : A) → (q ≡ true → P a) → P b → P (pick q a b)
-pick-if P true a b f g = f refl
-pick-if P false a b f g = g
-
 -- 0x25 is given at most 8 handles, by question 5
 module _ (number : ℕ) (k : Kernel) (r : Registers) (words : List ℕ) (tick : ℕ) where
   pub call-sound : (eqb number 0x25 ≡ true → length words ≤ 8) → RegistersFit r → tick < 18446744073709551616 → runs? k ≡ true → Sound k
@@ -39,52 +36,52 @@ module _ (number : ℕ) (k : Kernel) (r : Registers) (words : List ℕ) (tick : 
   unfolding call
   call-sound few f t g s =
       let P : Served → Type 0 = λ v. Clear (v .kernel) → Sound (v .kernel) in
-      pick-if P (eqb number 0x08) _ _ (λ e. createThread-sound k r f s)
-      (pick-if P (eqb number 0x09) _ _ (λ e c. exitThread-sound k s)
-      (pick-if P (eqb number 0x0A) _ _ (λ e c. sleepThread-sound k r tick t s g)
-      (pick-if P (eqb number 0x0C) _ _ (λ e c. setThreadPriority-sound k r s)
-      (pick-if P (eqb number 0x13) _ _ (λ e. createMutex-sound k r s)
-      (pick-if P (eqb number 0x14) _ _ (λ e. releaseMutex-sound k r s)
-      (pick-if P (eqb number 0x15) _ _ (λ e. createSemaphore-sound k r f s)
-      (pick-if P (eqb number 0x16) _ _ (λ e. releaseSemaphore-sound k r s)
-      (pick-if P (eqb number 0x17) _ _ (λ e. createEvent-sound k r s)
-      (pick-if P (eqb number 0x18) _ _ (λ e. signalEvent-sound k r s)
-      (pick-if P (eqb number 0x19) _ _ (λ e. clearEvent-sound k r s)
-      (pick-if P (eqb number 0x1A) _ _ (λ e. createTimer-sound k r s)
-      (pick-if P (eqb number 0x1B) _ _ (λ e. setTimer-sound k r tick f s)
-      (pick-if P (eqb number 0x1C) _ _ (λ e. cancelTimer-sound k r tick s)
-      (pick-if P (eqb number 0x1D) _ _ (λ e. clearTimer-sound k r tick s)
-      (pick-if P (eqb number 0x21) _ _ (λ e. createAddressArbiter-sound k s)
-      (pick-if P (eqb number 0x22) _ _ (λ e. arbitrateAddress-sound k r (getD words 0 0) tick f g s)
-      (pick-if P (eqb number 0x23) _ _ (λ e. closeHandle-sound k r s)
-      (pick-if P (eqb number 0x24) _ _ (λ e. waitSynchronization1-sound k r tick g s)
+      pick-both P (eqb number 0x08) _ _ (createThread-sound k r f s)
+      (pick-both P (eqb number 0x09) _ _ (λ c. exitThread-sound k s)
+      (pick-both P (eqb number 0x0A) _ _ (λ c. sleepThread-sound k r tick t s g)
+      (pick-both P (eqb number 0x0C) _ _ (λ c. setThreadPriority-sound k r s)
+      (pick-both P (eqb number 0x13) _ _ (createMutex-sound k r s)
+      (pick-both P (eqb number 0x14) _ _ (releaseMutex-sound k r s)
+      (pick-both P (eqb number 0x15) _ _ (createSemaphore-sound k r f s)
+      (pick-both P (eqb number 0x16) _ _ (releaseSemaphore-sound k r s)
+      (pick-both P (eqb number 0x17) _ _ (createEvent-sound k r s)
+      (pick-both P (eqb number 0x18) _ _ (signalEvent-sound k r s)
+      (pick-both P (eqb number 0x19) _ _ (clearEvent-sound k r s)
+      (pick-both P (eqb number 0x1A) _ _ (createTimer-sound k r s)
+      (pick-both P (eqb number 0x1B) _ _ (setTimer-sound k r tick f s)
+      (pick-both P (eqb number 0x1C) _ _ (cancelTimer-sound k r tick s)
+      (pick-both P (eqb number 0x1D) _ _ (clearTimer-sound k r tick s)
+      (pick-both P (eqb number 0x21) _ _ (createAddressArbiter-sound k s)
+      (pick-both P (eqb number 0x22) _ _ (arbitrateAddress-sound k r (getD words 0 0) tick f g s)
+      (pick-both P (eqb number 0x23) _ _ (closeHandle-sound k r s)
+      (pick-both P (eqb number 0x24) _ _ (waitSynchronization1-sound k r tick g s)
       (pick-if P (eqb number 0x25) _ _ (λ e. waitSynchronizationN-sound k r words tick (few e) g s)
-      (pick-if P (eqb number 0x27) _ _ (λ e. duplicateHandle-sound k r s)
+      (λ e. pick-both P (eqb number 0x27) _ _ (duplicateHandle-sound k r s)
       (λ c. s)))))))))))))))))))))
 
   pub call-answers : Accepted (call number k r words tick .answer)
   unfolding call
   call-answers =
       let P : Served → Type 0 = λ v. Accepted (v .answer) in
-      pick-if P (eqb number 0x08) _ _ (λ e. createThread-answers k r)
-      (pick-if P (eqb number 0x09) _ _ (λ e. exitThread-answers k)
-      (pick-if P (eqb number 0x0A) _ _ (λ e. sleepThread-answers k r tick)
-      (pick-if P (eqb number 0x0C) _ _ (λ e. setThreadPriority-answers k r)
-      (pick-if P (eqb number 0x13) _ _ (λ e. createMutex-answers k r)
-      (pick-if P (eqb number 0x14) _ _ (λ e. releaseMutex-answers k r)
-      (pick-if P (eqb number 0x15) _ _ (λ e. createSemaphore-answers k r)
-      (pick-if P (eqb number 0x16) _ _ (λ e. releaseSemaphore-answers k r)
-      (pick-if P (eqb number 0x17) _ _ (λ e. createEvent-answers k r)
-      (pick-if P (eqb number 0x18) _ _ (λ e. signalEvent-answers k r)
-      (pick-if P (eqb number 0x19) _ _ (λ e. clearEvent-answers k r)
-      (pick-if P (eqb number 0x1A) _ _ (λ e. createTimer-answers k r)
-      (pick-if P (eqb number 0x1B) _ _ (λ e. setTimer-answers k r tick)
-      (pick-if P (eqb number 0x1C) _ _ (λ e. cancelTimer-answers k r tick)
-      (pick-if P (eqb number 0x1D) _ _ (λ e. clearTimer-answers k r tick)
-      (pick-if P (eqb number 0x21) _ _ (λ e. createAddressArbiter-answers k)
-      (pick-if P (eqb number 0x22) _ _ (λ e. arbitrateAddress-answers k r (getD words 0 0) tick)
-      (pick-if P (eqb number 0x23) _ _ (λ e. closeHandle-answers k r)
-      (pick-if P (eqb number 0x24) _ _ (λ e. waitSynchronization1-answers k r tick)
-      (pick-if P (eqb number 0x25) _ _ (λ e. waitSynchronizationN-answers k r words tick)
-      (pick-if P (eqb number 0x27) _ _ (λ e. duplicateHandle-answers k r)
+      pick-both P (eqb number 0x08) _ _ (createThread-answers k r)
+      (pick-both P (eqb number 0x09) _ _ (exitThread-answers k)
+      (pick-both P (eqb number 0x0A) _ _ (sleepThread-answers k r tick)
+      (pick-both P (eqb number 0x0C) _ _ (setThreadPriority-answers k r)
+      (pick-both P (eqb number 0x13) _ _ (createMutex-answers k r)
+      (pick-both P (eqb number 0x14) _ _ (releaseMutex-answers k r)
+      (pick-both P (eqb number 0x15) _ _ (createSemaphore-answers k r)
+      (pick-both P (eqb number 0x16) _ _ (releaseSemaphore-answers k r)
+      (pick-both P (eqb number 0x17) _ _ (createEvent-answers k r)
+      (pick-both P (eqb number 0x18) _ _ (signalEvent-answers k r)
+      (pick-both P (eqb number 0x19) _ _ (clearEvent-answers k r)
+      (pick-both P (eqb number 0x1A) _ _ (createTimer-answers k r)
+      (pick-both P (eqb number 0x1B) _ _ (setTimer-answers k r tick)
+      (pick-both P (eqb number 0x1C) _ _ (cancelTimer-answers k r tick)
+      (pick-both P (eqb number 0x1D) _ _ (clearTimer-answers k r tick)
+      (pick-both P (eqb number 0x21) _ _ (createAddressArbiter-answers k)
+      (pick-both P (eqb number 0x22) _ _ (arbitrateAddress-answers k r (getD words 0 0) tick)
+      (pick-both P (eqb number 0x23) _ _ (closeHandle-answers k r)
+      (pick-both P (eqb number 0x24) _ _ (waitSynchronization1-answers k r tick)
+      (pick-both P (eqb number 0x25) _ _ (waitSynchronizationN-answers k r words tick)
+      (pick-both P (eqb number 0x27) _ _ (duplicateHandle-answers k r)
       (inl refl)))))))))))))))))))))

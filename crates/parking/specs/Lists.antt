@@ -37,7 +37,7 @@ store-full-if : (q : Bool) (s r : ObjectStore) → (r .full ≡ false → s .ful
 store-full-if true s r h e = e
 store-full-if false s r h e = h e
 
-store-full : (c : ThreadOption) (t : HandleTable) (hs : List ℕ) (s : ObjectStore) → resolveStore c t s hs .full ≡ false → s .full ≡ false
+pub store-full : (c : ThreadOption) (t : HandleTable) (hs : List ℕ) (s : ObjectStore) → resolveStore c t s hs .full ≡ false → s .full ≡ false
 unfolding resolveStore
 store-full c t [] s e = e
 store-full c t (h ∷ hs) s e =

@@ -22,6 +22,11 @@ pub pick-both : {A : Type 0} (P : A → Type 0) (q : Bool) (a b : A) → P a →
 pick-both P true a b x y = x
 pick-both P false a b x y = y
 
+-- the same, each end with what the test said
+pub pick-if : {A : Type 0} (P : A → Type 0) (q : Bool) (a b : A) → (q ≡ true → P a) → (q ≡ false → P b) → P (pick q a b)
+pick-if P true a b f g = f refl
+pick-if P false a b f g = g refl
+
 -- ---- columns
 abbrev pub kindAt : Slot → ℕ
 kindAt s = kindNumber (s .object)
