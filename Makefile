@@ -1,6 +1,6 @@
 # make             prove and write the static library, then run the C tests of its exports
 # make test        prove everything, then all C tests that need no original
-# make differential, flips, bench      need cargo and ORIGINAL, a copy of the original's source
+# make differential, flips, bench, bench-original, profile     need cargo and ORIGINAL, a copy of the original's source
 CC = gcc
 CFLAGS = -std=c11 -O2 -Wall -Wextra -Iinclude
 
@@ -10,6 +10,8 @@ ORIGINAL = ../shared/docs/src
 SEED = 1
 COUNT = 200
 BLOCKS = 8
+# rounds of the benchmark beside the original
+ROUNDS = 101
 
 # another library may be given in place of the proved one
 PROVED = target/staticlib/libhost.a
@@ -17,6 +19,7 @@ KERNEL_LIB = $(PROVED)
 
 C = target/c
 DRIVER = oracle/target/debug/driver
+BUILD = KERNEL_LIB=$(abspath $(KERNEL_LIB)) cargo build --offline --manifest-path oracle/Cargo.toml --target-dir oracle/target
 HOST = host check lent fresh_block made_block fresh_start next_event create_thread end_thread schedule asks
 FLIPS = flips rules fresh_block
 
@@ -43,11 +46,21 @@ flips: $(C)/flips blocks
 	$(C)/flips target/blocks/*.block
 
 bench: $(C)/bench blocks
-	$(C)/bench target/blocks/full.block
+	$(C)/bench target/blocks/full.block target/blocks/busy.block
 
-oracle: $(KERNEL_LIB)
+bench-original: original $(KERNEL_LIB)
+	$(BUILD) --profile timed -p driver
+	oracle/target/timed/driver bench --rounds $(ROUNDS)
+
+# instructions and copied bytes of a pass by function
+profile: $(C)/pass $(C)/copies blocks
+	sh bench/profile.sh $(C)/pass $(C)/copies target/blocks/full.block target/blocks/busy.block
+
+original:
 	ORIGINAL=$(abspath $(ORIGINAL)) sh oracle/scripts/copy-original.sh
-	KERNEL_LIB=$(abspath $(KERNEL_LIB)) cargo build --offline --manifest-path oracle/Cargo.toml --target-dir oracle/target -p oracle -p driver
+
+oracle: original $(KERNEL_LIB)
+	$(BUILD) -p oracle -p driver
 
 differential: oracle
 	$(DRIVER) compare --seed $(SEED) --count $(COUNT)
@@ -64,6 +77,12 @@ $(C)/flips: $(FLIPS:%=$(C)/obj/tests/%.o) $(KERNEL_LIB)
 $(C)/bench: $(C)/obj/bench/bench.o $(C)/obj/bench/stack.o $(KERNEL_LIB)
 	$(CC) -o $@ $^
 
+$(C)/pass: $(C)/obj/bench/pass.o $(KERNEL_LIB)
+	$(CC) -o $@ $^
+
+$(C)/copies: $(C)/obj/bench/pass.o $(C)/obj/bench/copies.o $(KERNEL_LIB)
+	$(CC) -no-pie -Wl,--wrap=memcpy,--wrap=memmove,--wrap=memset -o $@ $^
+
 $(C)/obj/%.o: %.c $(wildcard include/*.h tests/*.h bench/*.h)
 	@mkdir -p $(@D)
 	$(CC) $(CFLAGS) -c -o $@ $<
@@ -71,4 +90,4 @@ $(C)/obj/%.o: %.c $(wildcard include/*.h tests/*.h bench/*.h)
 clean:
 	rm -rf target oracle/target
 
-.PHONY: all test staticlib host-test flip-fresh flips bench oracle differential blocks clean
+.PHONY: all test staticlib host-test flip-fresh flips bench bench-original profile original oracle differential blocks clean

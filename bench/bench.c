@@ -1,6 +1,6 @@
 /*
- * Times every export on a fresh block and on a full one beside a plain copy of 16,384 bytes, and measures the stack
- * that each takes. Usage: bench FULL-BLOCK-FILE
+ * Times every export on a fresh block and on given ones beside a plain copy of 16,384 bytes, and measures the stack
+ * that each takes. Usage: bench BLOCK-FILE..
  */
 #define _GNU_SOURCE
 #include "kernel.h"
@@ -150,18 +150,28 @@ static void measure(const char *what)
     }
 }
 
+/* The file's name without folder and ending. */
+static const char *name_of(const char *file)
+{
+    static char name[32];
+    const char *last = strrchr(file, '/');
+    snprintf(name, sizeof name, "%s", last ? last + 1 : file);
+    name[strcspn(name, ".")] = 0;
+    return name;
+}
+
 int main(int argc, char **argv)
 {
-    FILE *in = argc == 2 ? fopen(argv[1], "rb") : NULL;
-    static uint8_t full[KERNEL_BLOCK_LEN];
-    if (!in || fread(full, 1, sizeof full, in) != sizeof full) {
-        fprintf(stderr, "usage: bench FULL-BLOCK-FILE\n");
-        return 2;
-    }
-    fclose(in);
     kernel_fresh_start(original, sizeof original, bank, sizeof bank, 0x10);
     measure("fresh");
-    memcpy(original, full, sizeof original);
-    measure("full");
+    for (int i = 1; i < argc; i++) {
+        FILE *in = fopen(argv[i], "rb");
+        if (!in || fread(original, 1, sizeof original, in) != sizeof original) {
+            fprintf(stderr, "%s: no block\n", argv[i]);
+            return 2;
+        }
+        fclose(in);
+        measure(name_of(argv[i]));
+    }
     return 0;
 }

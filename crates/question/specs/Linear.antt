@@ -6,21 +6,17 @@ use Prim.Native.Nat.{ℕ, zero, suc, _+_, _-_}
 use lib.Dec.{eqb, leb, ltb}
 use lib.ListN.{length, getD}
 use Rattle.laws.specs.Logic.{pick, _and_, _or_}
+use Rattle.laws.specs.Count.{at}
 use Rattle.laws.specs.Numbers.{allTo, allBelow}
 use Rattle.types.specs.declared.thread.ThreadOption.{ThreadOption}
 use Rattle.types.specs.declared.thread.ThreadOption.the-variants.{NoThread, SomeThread}
 use Rattle.types.specs.declared.thread.ThreadStatus.{ThreadStatus}
 use Rattle.types.specs.declared.thread.ThreadStatus.the-variants.{Dead, Running, Ready, Sleeping, WaitSync, WaitArbiter, Dormant}
 use Rattle.types.specs.declared.thread.Thread as th
-use Rattle.types.specs.declared.object.KObject.{KObject}
-use Rattle.types.specs.declared.object.KObject.the-variants.{Free, Thread, Event, Mutex, Semaphore, Timer, AddressArbiter, Process, ResourceLimit}
-use Rattle.types.specs.declared.object.Slot.{Slot}
 use Rattle.types.specs.declared.object.HandleEntry.{HandleEntry}
 use Rattle.types.specs.Thread.{isDead}
-use Rattle.types.specs.Object.{kindNumber}
-use Rattle.sound.specs.View.{threadAt, slotAt}
+use Rattle.sound.specs.View.{threadAt}
 use Rattle.sound.specs.Threads.{place?}
-use Rattle.sound.specs.Objects.{isThread?, isProcess?}
 
 -- ---- threads
 unfoldable pub onePlace? : Bool → ℕ → Bool
@@ -48,9 +44,9 @@ unfoldable pub entry? : Bool → ℕ → HandleEntry → ℕ → Bool
 entry? true low e next = leb low (e .handle .0) and (ltb (e .handle .0) next and (ltb 0 (e .object .0) and leb (e .object .0) 128))
 entry? false low e next = eqb (e .handle .0) 0 and eqb (e .object .0) 0
 
--- ---- a slot that is named n times and stands f times on the free chain
-unfoldable pub slot? : Slot → ℕ → ℕ → Bool
-slot? s n f = eqb (s .refcount) n and (eqb (1 - kindNumber (s .object)) (1 - s .refcount) and eqb f (1 - kindNumber (s .object)))
+-- ---- a slot of kind number k and count r that is named n times and stands f times on the free chain
+unfoldable pub slot? : ℕ → ℕ → ℕ → ℕ → Bool
+slot? k r n f = eqb r n and (eqb (1 - k) (1 - r) and eqb f (1 - k))
 
-unfoldable pub slots? : List Slot → List ℕ → List ℕ → ℕ → Bool
-slots? l c m n = allTo n (λ o. slot? (slotAt l o) (getD c o 0) (getD m o 0))
+unfoldable pub slots? : List ℕ → List ℕ → List ℕ → List ℕ → ℕ → Bool
+slots? ks rs c m n = allTo n (λ o. slot? (at ks o) (at rs o) (getD c o 0) (getD m o 0))

@@ -8,7 +8,8 @@ use Rattle.laws.specs.Logic.{pick, _and_, _or_}
 use Rattle.laws.specs.Count.{one?, at}
 use Rattle.laws.specs.Numbers.{allTo, allBelow}
 use Rattle.laws.specs.Walk.{walk, ends?}
-use Rattle.laws.specs.Tally.{tally, tallyAll}
+use Rattle.laws.specs.Tally.{bump, tally, tallyAll}
+use Rattle.units.specs.declared.ObjectId.{ObjectId}
 use Rattle.types.specs.declared.thread.ThreadOption.{ThreadOption}
 use Rattle.types.specs.declared.thread.ThreadOption.the-variants.{NoThread, SomeThread}
 use Rattle.types.specs.declared.thread.ThreadStatus.{ThreadStatus}
@@ -16,27 +17,61 @@ use Rattle.types.specs.declared.thread.Thread as th
 use Rattle.types.specs.declared.object.KObject.{KObject}
 use Rattle.types.specs.declared.object.KObject.the-variants.{Free, Thread, Event, Mutex, Semaphore, Timer, AddressArbiter, Process, ResourceLimit}
 use Rattle.types.specs.declared.object.Slot.{Slot}
+use Rattle.types.specs.declared.object.Waiter.{Waiter}
+use Rattle.types.specs.declared.object.HandleEntry.{HandleEntry}
 use Rattle.types.specs.Thread.{isDead}
-use Rattle.sound.specs.View.{noSlot, slotAt}
-use Rattle.sound.specs.Objects.{isThread?, isProcess?}
-use Rattle.sound.specs.Records.{chain?}
+use Rattle.sound.specs.View.{waiterNexts, waiterThreads, waiterAddresses, slotAt}
+use Rattle.sound.specs.Objects.{upTo128}
+use Rattle.sound.specs.Records.{chain?, blanks?}
+use Rattle.tally.specs.Lists.{names, handleNames, listNames}
+use Rattle.question.specs.Linear.{slots?}
+
+-- ---- the thread that a thread object names
+abbrev pub namedOf : KObject → ℕ
+namedOf (Free x) = 0
+namedOf (Thread t) = t
+namedOf (Event e) = 0
+namedOf (Mutex m) = 0
+namedOf (Semaphore c) = 0
+namedOf (Timer t) = 0
+namedOf (AddressArbiter a) = 0
+namedOf Process = 0
+namedOf ResourceLimit = 0
+
+abbrev pub named : List Slot → List ℕ
+named l = map (λ (s : Slot). namedOf (s .object)) l
+
+-- ---- how often each object is named, and how often each slot stands on the free chain
+abbrev pub countsOf : List HandleEntry → List th.Thread → List ObjectId → ℕ → List ℕ
+countsOf es ts kept p = bump 129 (tally 129 (tallyAll 129 (tally 129 (replicate 129 0) (handleNames es)) (listNames ts)) (names kept)) p
+
+abbrev pub marksOf : List ℕ → ℕ → List ℕ
+marksOf ns free = tally 129 (replicate 129 0) (walk ns 128 free)
 
 -- ---- kept objects: a number past the last slot reads the first one, and fails by the number
 unfoldable pub slotIndex : ℕ → ℕ
 slotIndex x = pick (eqb x 0) 0 (pick (ltb 128 x) 0 (x - 1))
 
-unfoldable pub keptThread? : ℕ → KObject → ℕ → Bool
-keptThread? x o t = eqb x 0 or (leb x 128 and isThread? t o)
+unfoldable pub keptThread? : ℕ → ℕ → ℕ → ℕ → Bool
+keptThread? x kind u t = eqb x 0 or (leb x 128 and (eqb kind 1 and eqb u t))
 
-unfoldable pub keptProcess? : ℕ → KObject → Bool
-keptProcess? x o = eqb x 0 or (leb x 128 and isProcess? o)
+unfoldable pub keptProcess? : ℕ → ℕ → Bool
+keptProcess? x kind = eqb x 0 or (leb x 128 and eqb kind 7)
 
--- what stands at the index of object x
-abbrev pub indexed : List Slot → ℕ → KObject
-indexed l x = getD l (slotIndex x) noSlot .object
+-- what a column has at the index of object x
+abbrev pub indexed : List ℕ → ℕ → ℕ
+indexed l x = getD l (slotIndex x) 0
 
-unfoldable pub keptThreads? : List Slot → List ℕ → ℕ → Bool
-keptThreads? l k n = allBelow n (λ t. keptThread? (getD k t 0) (indexed l (getD k t 0)) t)
+unfoldable pub keptThreads? : List ℕ → List ℕ → List ℕ → ℕ → Bool
+keptThreads? ks us k n = allBelow n (λ t. keptThread? (getD k t 0) (indexed ks (getD k t 0)) (indexed us (getD k t 0)) t)
+
+unfoldable pub keptBy? : List ℕ → List ℕ → List ℕ → ℕ → Bool
+keptBy? ks us k p = keptThreads? ks us k 32 and keptProcess? p (indexed ks p)
+
+-- ---- every clause about objects that asks their columns: kinds, counts, nexts, threads of thread objects
+unfoldable pub objectsBy? : List ℕ → List ℕ → List ℕ → List ℕ → ℕ → List ℕ → List ℕ → ℕ → Bool
+objectsBy? ks rs ns us free c k p =
+    (upTo128 k and leb p 128) and ((ends? ns 128 free and slots? ks rs c (marksOf ns free) 128) and keptBy? ks us k p)
 
 -- ---- contents: 1 for a thread that is Dead or is none
 abbrev pub deadMark : ThreadStatus → ℕ
@@ -84,3 +119,9 @@ sharedOut? nx hs free =
 
 unfoldable pub chainsBy? : List ℕ → List ℕ → List ℕ → ℕ → List ℕ → ℕ → Bool
 chainsBy? nx ts ad n hs k = allTo k (λ o. chain? ts ad n (walk nx 64 (at hs o)))
+
+unfoldable pub recordsBy? : ℕ → List ℕ → List Waiter → ℕ → Bool
+recordsBy? n hs w free =
+    sharedOut? (waiterNexts w) hs free
+    and (chainsBy? (waiterNexts w) (waiterThreads w) (waiterAddresses w) n hs 128
+    and blanks? (waiterThreads w) (waiterAddresses w) (walk (waiterNexts w) 64 free))

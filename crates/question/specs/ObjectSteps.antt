@@ -1,13 +1,13 @@
 -- The cases of a chain walk, and one turn of each loop over slots, kept objects and records.
-use mathlib.Core.Path.{_≡_, refl, sym, _∙_}
+use mathlib.Core.Path.{_≡_, refl, ap, sym, _∙_}
 use mathlib.Core.Bool.{Bool, true, false}
 use mathlib.Core.Logic.{_≢_}
-use mathlib.Core.List.{List}
+use mathlib.Core.List.{List, [], _∷_, map}
 use Prim.Native.Nat.{ℕ, zero, suc, _+_, _-_, _≤_, _<_}
 use native.Mathlib.Numerals.{add-one}
 use native.Mathlib.Omega.{arith}
 use lib.Dec.{eqb, leb}
-use lib.ListN.{length, getD, drop, drop-of-length-le, List·getD-map}
+use lib.ListN.{length, getD, set, drop, drop-of-length-le, List·getD-map}
 use lib.Seq.{drop-cons}
 use borrow.Author.Tests.{eq-eqb, ne-eqb, le-leb, lt-leb, le-ltb, lt-ltb}
 use Rattle.laws.specs.Logic.{_and_, _or_, and-false, and-assoc, and-end}
@@ -107,24 +107,44 @@ module _ (nx ts ad : List ℕ) (left h : ℕ) (p : left ≢ 0) (q : h ≢ 0) (t 
       unfolding chain? _and_
       chain-go n l e = rw (walk-go nx left h p q, ← te, ← ae, ← ne, lt-ltb t n l, e)
 
+-- ---- a column that is made from the last place to the first
+module _ {A : Type 0} (f : A → ℕ) (d : A) where
+  pub column-start : (l : List A) (r : List ℕ) (i : ℕ) → length l ≤ i → length r ≤ i → drop i r ≡ map f (drop i l)
+  column-start l r i h k = rw (drop-of-length-le l h, drop-of-length-le r k)
+
+  column-go : (l : List A) (r : List ℕ) (i : ℕ) → i < length l → i < length r → drop (suc i) r ≡ map f (drop (suc i) l) → drop i (set r i (f (getD l i d))) ≡ map f (drop i l)
+  column-go [] r i h k e = absurd (omega arith)
+  column-go (x ∷ l) [] i h k e = absurd (omega arith)
+  column-go (x ∷ l) (y ∷ r) zero h k e = ap (λ (t : List ℕ). f x ∷ t) e
+  column-go (x ∷ l) (y ∷ r) (suc i) h k e = column-go l r i (omega arith) (omega arith) e
+
+  pub column-more : (l : List A) (r : List ℕ) (o : ℕ) → 0 < o → o ≤ length l → o ≤ length r → drop o r ≡ map f (drop o l)
+      → drop (o - 1) (set r (o - 1) (f (getD l (o - 1) d))) ≡ map f (drop (o - 1) l)
+  column-more l r zero p h k e = absurd (omega arith)
+  column-more l r (suc i) p h k e = let z : suc i - 1 ≡ i = omega arith in rw z (column-go l r i (omega arith) (omega arith) e)
+
+  pub column-done : (l : List A) (r : List ℕ) (o : ℕ) → o ≤ 0 → drop o r ≡ map f (drop o l) → r ≡ map f l
+  column-done l r zero h e = e
+  column-done l r (suc o) h e = absurd (omega arith)
+
 -- ---- tests of every slot, from the last to the first
-pub slots-step : (l : List Slot) (c m : List ℕ) (o : ℕ) → 0 < o
-    → slots? l c m o ≡ slot? (getD l (o - 1) noSlot) (getD c o 0) (getD m o 0) and slots? l c m (o - 1)
+pub slots-step : (ks rs c m : List ℕ) (o : ℕ) → 0 < o
+    → slots? ks rs c m o ≡ slot? (getD ks (o - 1) 0) (getD rs (o - 1) 0) (getD c o 0) (getD m o 0) and slots? ks rs c m (o - 1)
 unfolding slots?
-slots-step l c m o h = allTo-step _ o h ∙ rw (slotAt-pos l o (omega arith))
+slots-step ks rs c m o h = allTo-step _ o h ∙ rw (at-cell ks o (omega arith), at-cell rs o (omega arith))
 
-pub slots-end : (l : List Slot) (c m : List ℕ) (o : ℕ) → o ≤ 0 → slots? l c m o ≡ true
+pub slots-end : (ks rs c m : List ℕ) (o : ℕ) → o ≤ 0 → slots? ks rs c m o ≡ true
 unfolding slots?
-slots-end l c m o h = allTo-end _ o h
+slots-end ks rs c m o h = allTo-end _ o h
 
-pub contents-step : (n : ℕ) (d : List ℕ) (l : List Slot) (o : ℕ) → 0 < o
-    → contentsBy? n d l o ≡ contentBy? n d (getD l (o - 1) noSlot .object) and contentsBy? n d l (o - 1)
+pub contents-more : (n : ℕ) (d : List ℕ) (l : List Slot) (o : ℕ) (b : Bool) → 0 < o
+    → b and contentsBy? n d l o ≡ (b and contentBy? n d (getD l (o - 1) noSlot .object)) and contentsBy? n d l (o - 1)
 unfolding contentsBy?
-contents-step n d l o h = allTo-step _ o h ∙ rw (slotAt-pos l o (omega arith))
+contents-more n d l o b h = ap (λ (t : Bool). b and t) (allTo-step _ o h ∙ rw (slotAt-pos l o (omega arith))) ∙ and-assoc b _ _
 
-pub contents-end : (n : ℕ) (d : List ℕ) (l : List Slot) (o : ℕ) → o ≤ 0 → contentsBy? n d l o ≡ true
+pub contents-end : (n : ℕ) (d : List ℕ) (l : List Slot) (o : ℕ) (b : Bool) → o ≤ 0 → b and contentsBy? n d l o ≡ b
 unfolding contentsBy?
-contents-end n d l o h = allTo-end _ o h
+contents-end n d l o b h = ap (λ (t : Bool). b and t) (allTo-end _ o h) ∙ and-end b
 
 -- ---- kept objects
 abbrev noId : ObjectId
@@ -138,14 +158,15 @@ pub upTo-end : (l : List ObjectId) (i : ℕ) → length l ≤ i → upTo128 (ids
 unfolding upTo128
 upTo-end l i h = rw (drop-of-length-le l h)
 
-pub kept-step : (l : List Slot) (k : List ObjectId) (t : ℕ) → 0 < t
-    → keptThreads? l (ids k) t ≡ keptThread? (getD k (t - 1) noId .0) (indexed l (getD k (t - 1) noId .0)) (t - 1) and keptThreads? l (ids k) (t - 1)
+pub kept-step : (ks us : List ℕ) (k : List ObjectId) (t : ℕ) → 0 < t
+    → keptThreads? ks us (ids k) t
+    ≡ keptThread? (getD k (t - 1) noId .0) (indexed ks (getD k (t - 1) noId .0)) (indexed us (getD k (t - 1) noId .0)) (t - 1) and keptThreads? ks us (ids k) (t - 1)
 unfolding keptThreads?
-kept-step l k t h = allTo-step _ t h ∙ rw (List·getD-map (λ (o : ObjectId). o .0) k (t - 1) noId)
+kept-step ks us k t h = allTo-step _ t h ∙ rw (List·getD-map (λ (o : ObjectId). o .0) k (t - 1) noId)
 
-pub kept-end : (l : List Slot) (k : List ℕ) (t : ℕ) → t ≤ 0 → keptThreads? l k t ≡ true
+pub kept-end : (ks us k : List ℕ) (t : ℕ) → t ≤ 0 → keptThreads? ks us k t ≡ true
 unfolding keptThreads?
-kept-end l k t h = allTo-end _ t h
+kept-end ks us k t h = allTo-end _ t h
 
 -- ---- records
 module _ (nx hs : List ℕ) (i : ℕ) where

@@ -2,15 +2,15 @@
 use mathlib.Core.Path.{_≡_, refl, ap, sym, _∙_}
 use mathlib.Core.Bool.{Bool, true, false, not}
 use mathlib.Core.Logic.{inl, inr}
-use mathlib.Core.List.{List, [], _∷_}
-use Prim.Native.Nat.{ℕ, zero, suc, _+_, _-_, _*_, _≤_}
+use mathlib.Core.List.{List, [], _∷_, map}
+use Prim.Native.Nat.{ℕ, zero, suc, _+_, _-_, _*_, _≤_, _<_}
 use native.Mathlib.Omega.{arith}
 use lib.Dec.{eqb, leb}
 use lib.ListN.{length, getD, replicate, length-map, List·getD-map, List·getD-eq-default}
 use borrow.Author.Tests.{ne-eqb, le-leb, lt-leb, le-ltb}
-use Rattle.laws.specs.Logic.{_and_, _or_, lt-cases}
+use Rattle.laws.specs.Logic.{_and_, _or_, and-assoc, lt-cases}
 use Rattle.laws.specs.All.{All}
-use Rattle.laws.specs.Count.{count, countAll, one?}
+use Rattle.laws.specs.Count.{count, countAll, ind, ind-other, one?}
 use Rattle.laws.specs.Numbers.{allTo-same}
 use Rattle.laws.specs.Walk.{walk, ends?, walk-length}
 use Rattle.laws.specs.Tally.{bump, tally, tallyAll, bump-get, length-tally, tally-get, tally-le, length-tallyAll, tallyAll-get, tallyAll-le, zero-get, zero-le}
@@ -30,38 +30,55 @@ use Rattle.types.specs.declared.object.ObjectStore.{ObjectStore}
 use Rattle.types.specs.Thread.{isDead}
 use Rattle.types.specs.Object.{kindNumber, nextOf, headOf}
 use Rattle.sound.specs.View.{kinds, refs, nexts, ids, handled, lists, heads, waiterNexts, waiterThreads, waiterAddresses, noSlot, noThread, slotAt, threadAt, at-slots}
-use Rattle.sound.specs.Objects.{names, keptNames, held?, isThread?, isProcess?, kept?, owner?, content?, contents?}
+use Rattle.sound.specs.Objects.{names, keptNames, held?, keptIn?, isThread?, isProcess?, kept?, owner?, content?, contents?}
 use Rattle.sound.specs.Records.{chain?, blanks?, chained?, freeChain, records?}
-use Rattle.tally.specs.Lists.{Eight}
+use Rattle.tally.specs.Lists as list
+use Rattle.tally.specs.Lists.{Eight, nameOf, handleNames, listNames}
 use Rattle.question.specs.Linear.{slot?, slots?}
-use Rattle.question.specs.LinearObjects.{slotIndex, keptThread?, keptProcess?, indexed, keptThreads?, deadMark, deadMarks, live?, ownerBy?, contentBy?, contentsBy?, endAll?, walkAll, onceAll?, sharedOut?, chainsBy?}
+use Rattle.question.specs.LinearObjects.{namedOf, named, countsOf, marksOf, slotIndex, keptThread?, keptProcess?, indexed, keptThreads?, keptBy?, objectsBy?, deadMark, deadMarks, live?, ownerBy?, contentBy?, contentsBy?, endAll?, walkAll, onceAll?, sharedOut?, chainsBy?, recordsBy?}
+
+-- ---- a number that names no object is counted nowhere
+module _ (o : ℕ) (p : 0 < o) (q : o ≤ 128) where
+  name-ind : (x : ℕ) → ind (nameOf x) o ≡ ind x o
+  name-ind zero = ind-other 129 o (omega arith) ∙ sym (ind-other 0 o (omega arith))
+  name-ind (suc x) = rw (ne-eqb (suc x) 0 (omega arith))
+
+  names-count : {A : Type 0} (f : A → ℕ) (l : List A) → count o (map (λ x. nameOf (f x)) l) ≡ count o (map f l)
+  unfolding count
+  names-count f [] = refl
+  names-count f (x ∷ l) = rw (name-ind (f x), names-count f l)
+
+  names-countAll : (ts : List th.Thread) → countAll o (listNames ts) ≡ countAll o (lists ts)
+  unfolding countAll
+  names-countAll [] = refl
+  names-countAll (t ∷ ts) = rw (names-count (λ (x : ObjectId). x .0) (t .«wait_objects»), names-countAll ts)
 
 -- ---- counts and the free chain
 module _ (s : ObjectStore) (t : HandleTable) (ts : List th.Thread) (ns : length (s .slots) ≡ 128) (ne : length (t .entries) ≡ 256)
     (nt : length ts ≡ 32) (a : All Eight ts) (nk : length (s .«thread_objects») ≡ 32) where
   abbrev counts : List ℕ
-  counts = bump 129 (tally 129 (tallyAll 129 (tally 129 (replicate 129 0) (handled (t .entries))) (lists ts)) (ids (s .«thread_objects»))) (s .«process_object» .0)
+  counts = countsOf (t .entries) ts (s .«thread_objects») (s .«process_object» .0)
 
   abbrev marks : List ℕ
-  marks = tally 129 (replicate 129 0) (walk (nexts (s .slots)) 128 (s .free))
+  marks = marksOf (nexts (s .slots)) (s .free)
 
-  all-lists : (l : List th.Thread) → All Eight l → All (λ (x : List ℕ). length x ≤ 8) (lists l)
+  all-lists : (l : List th.Thread) → All Eight l → All (λ (x : List ℕ). length x ≤ 8) (listNames l)
   all-lists [] e = tt
-  all-lists (x ∷ l) e = (omega (arith, e .0, length-map (x .«wait_objects») (λ (o : ObjectId). o .0)), all-lists l (e .1))
+  all-lists (x ∷ l) e = (omega (arith, e .0, length-map (x .«wait_objects») (λ (o : ObjectId). nameOf (o .0))), all-lists l (e .1))
 
-  counted : (o : ℕ) → o ≤ 128 → getD counts o 0 ≡ names t ts o + keptNames s o
+  counted : (o : ℕ) → 0 < o → o ≤ 128 → getD counts o 0 ≡ names t ts o + keptNames s o
   unfolding names keptNames
-  counted o h =
-      let os = handled (t .entries) in
-      let ls = lists ts in
-      let ks = ids (s .«thread_objects») in
+  counted o p h =
+      let os = handleNames (t .entries) in
+      let ls = listNames ts in
+      let ks = list.names (s .«thread_objects») in
       let c₀ : List ℕ = replicate 129 0 in
       let c₁ = tally 129 c₀ os in
       let c₂ = tallyAll 129 c₁ ls in
       let c₃ = tally 129 c₂ ks in
-      let eo : length os ≡ 256 = length-map (t .entries) (λ (e : HandleEntry). e .object .0) ∙ ne in
-      let el : length ls ≡ 32 = length-map ts (λ (x : th.Thread). ids (x .«wait_objects»)) ∙ nt in
-      let ek : length ks ≡ 32 = length-map (s .«thread_objects») (λ (o : ObjectId). o .0) ∙ nk in
+      let eo : length os ≡ 256 = length-map (t .entries) (λ (e : HandleEntry). nameOf (e .object .0)) ∙ ne in
+      let el : length ls ≡ 32 = length-map ts (λ (x : th.Thread). list.names (x .«wait_objects»)) ∙ nt in
+      let ek : length ks ≡ 32 = length-map (s .«thread_objects») (λ (o : ObjectId). nameOf (o .0)) ∙ nk in
       let n₁ : length c₁ ≡ 129 = length-tally 129 c₀ os in
       let n₂ : length c₂ ≡ 129 = length-tallyAll 129 c₁ ls ∙ n₁ in
       let n₃ : length c₃ ≡ 129 = length-tally 129 c₂ ks ∙ n₂ in
@@ -77,6 +94,9 @@ module _ (s : ObjectStore) (t : HandleTable) (ts : List th.Thread) (ns : length 
         tallyAll-get 129 8 ls c₁ 256 w n₁ b₁ r o (omega arith),
         tally-get 129 os c₀ 0 refl (zero-le 129) (omega arith) o (omega arith),
         zero-get 129 o,
+        names-count o p h (λ (e : HandleEntry). e .object .0) (t .entries),
+        names-countAll o p h ts,
+        names-count o p h (λ (x : ObjectId). x .0) (s .«thread_objects»),
       )
 
   marked : (o : ℕ) → o ≤ 128 → getD marks o 0 ≡ count o (walk (nexts (s .slots)) 128 (s .free))
@@ -84,7 +104,7 @@ module _ (s : ObjectStore) (t : HandleTable) (ts : List th.Thread) (ns : length 
       let os = walk (nexts (s .slots)) 128 (s .free) in
       omega (arith, tally-get 129 os (replicate 129 0) 0 refl (zero-le 129) (omega (arith, walk-length (nexts (s .slots)) 128 (s .free))) o (omega arith), zero-get 129 o)
 
-  pub held-same : ends? (nexts (s .slots)) 128 (s .free) and slots? (s .slots) counts marks 128 ≡ held? s (names t ts)
+  held-same : ends? (nexts (s .slots)) 128 (s .free) and slots? (kinds (s .slots)) (refs (s .slots)) counts marks 128 ≡ held? s (names t ts)
   unfolding held? store.store? store.slot? slots? slot? _and_
   held-same =
       let l = s .slots in
@@ -92,9 +112,7 @@ module _ (s : ObjectStore) (t : HandleTable) (ts : List th.Thread) (ns : length 
       let lr : length (refs l) ≡ 128 = length-map l (λ (x : Slot). x .refcount) ∙ ns in
       let ln : length (nexts l) ≡ 128 = length-map l (λ (x : Slot). nextOf (x .object)) ∙ ns in
       rw (lk, lr, ln)
-      (ap (λ (b : Bool). ends? (nexts l) 128 (s .free) and b)
-      (allTo-same 128 _ _ (λ o p q.
-      rw (counted o q, marked o q, at-slots (λ (x : Slot). x .refcount) l o refl, at-slots (λ (x : Slot). kindNumber (x .object)) l o refl))))
+      (ap (λ (b : Bool). ends? (nexts l) 128 (s .free) and b) (allTo-same 128 _ _ (λ o p q. rw (counted o p q, marked o q))))
 
 -- ---- kept objects
 index-in : (i : ℕ) → suc i ≤ 128 → slotIndex (suc i) ≡ i
@@ -102,7 +120,7 @@ unfolding slotIndex
 index-in i h = let e : suc i - 1 ≡ i = omega arith in rw (ne-eqb (suc i) 0 (omega arith), le-ltb 128 (suc i) h, e)
 
 module _ (p : KObject → Bool) (out : p (Free 0) ≡ false) (l : List Slot) (n : length l ≡ 128) where
-  kept-one : (x : ℕ) → eqb x 0 or (leb x 128 and p (indexed l x)) ≡ eqb x 0 or p (slotAt l x .object)
+  kept-one : (x : ℕ) → eqb x 0 or (leb x 128 and p (getD l (slotIndex x) noSlot .object)) ≡ eqb x 0 or p (slotAt l x .object)
   unfolding _or_ _and_ slotAt
   kept-one zero = refl
   kept-one (suc i) =
@@ -111,12 +129,62 @@ module _ (p : KObject → Bool) (out : p (Free 0) ≡ false) (l : List Slot) (n 
         | inr h ↦ rw (ne-eqb (suc i) 0 (omega arith), le-leb (suc i) 128 h) (ap (λ (j : ℕ). p (getD l j noSlot .object)) (index-in i h))
       ]
 
-pub kept-same : (s : ObjectStore) → length (s .slots) ≡ 128
-    → keptThreads? (s .slots) (ids (s .«thread_objects»)) 32 and keptProcess? (s .«process_object» .0) (indexed (s .slots) (s .«process_object» .0)) ≡ kept? s
-unfolding kept? keptThreads? keptThread? keptProcess?
+-- what an object is, by its kind and its thread
+thread-by : (t : ℕ) (o : KObject) → eqb (kindNumber o) 1 and eqb (namedOf o) t ≡ isThread? t o
+unfolding _and_
+thread-by t (Free x) = refl
+thread-by t (Thread u) = refl
+thread-by t (Event e) = refl
+thread-by t (Mutex m) = refl
+thread-by t (Semaphore c) = refl
+thread-by t (Timer x) = refl
+thread-by t (AddressArbiter a) = refl
+thread-by t Process = refl
+thread-by t ResourceLimit = refl
+
+process-by : (o : KObject) → eqb (kindNumber o) 7 ≡ isProcess? o
+process-by (Free x) = refl
+process-by (Thread u) = refl
+process-by (Event e) = refl
+process-by (Mutex m) = refl
+process-by (Semaphore c) = refl
+process-by (Timer x) = refl
+process-by (AddressArbiter a) = refl
+process-by Process = refl
+process-by ResourceLimit = refl
+
+module _ (l : List Slot) (n : length l ≡ 128) where
+  thread-one : (x t : ℕ) → keptThread? x (indexed (kinds l) x) (indexed (named l) x) t ≡ eqb x 0 or isThread? t (slotAt l x .object)
+  unfolding keptThread?
+  thread-one x t =
+      rw (
+        List·getD-map (λ (s : Slot). kindNumber (s .object)) l (slotIndex x) noSlot,
+        List·getD-map (λ (s : Slot). namedOf (s .object)) l (slotIndex x) noSlot,
+        thread-by t (getD l (slotIndex x) noSlot .object),
+      )
+      (kept-one (isThread? t) refl l n x)
+
+  process-one : (x : ℕ) → keptProcess? x (indexed (kinds l) x) ≡ eqb x 0 or isProcess? (slotAt l x .object)
+  unfolding keptProcess?
+  process-one x =
+      rw (List·getD-map (λ (s : Slot). kindNumber (s .object)) l (slotIndex x) noSlot, process-by (getD l (slotIndex x) noSlot .object))
+      (kept-one isProcess? refl l n x)
+
+kept-same : (s : ObjectStore) → length (s .slots) ≡ 128 → keptBy? (kinds (s .slots)) (named (s .slots)) (ids (s .«thread_objects»)) (s .«process_object» .0) ≡ kept? s
+unfolding kept? keptBy? keptThreads?
 kept-same s n =
-    let x = s .«process_object» .0 in
-    rw (kept-one isProcess? refl (s .slots) n x, allTo-same 32 _ _ (λ i a b. kept-one (isThread? (i - 1)) refl (s .slots) n (getD (ids (s .«thread_objects»)) (i - 1) 0)))
+    rw (
+      process-one (s .slots) n (s .«process_object» .0),
+      allTo-same 32 _ _ (λ i a b. thread-one (s .slots) n (getD (ids (s .«thread_objects»)) (i - 1) 0) (i - 1)),
+    )
+
+pub objects-same : (s : ObjectStore) (t : HandleTable) (ts : List th.Thread) → length (s .slots) ≡ 128 → length (t .entries) ≡ 256 → length ts ≡ 32 → All Eight ts
+    → length (s .«thread_objects») ≡ 32
+    → objectsBy? (kinds (s .slots)) (refs (s .slots)) (nexts (s .slots)) (named (s .slots)) (s .free)
+    (countsOf (t .entries) ts (s .«thread_objects») (s .«process_object» .0)) (ids (s .«thread_objects»)) (s .«process_object» .0)
+    ≡ (keptIn? s and held? s (names t ts)) and kept? s
+unfolding objectsBy? keptIn?
+objects-same s t ts ns ne nt a nk = rw (held-same s t ts ns ne nt a nk, kept-same s ns) (and-assoc (keptIn? s) (held? s (names t ts)) (kept? s))
 
 -- ---- contents
 not-mark : (b : Bool) → eqb (one? b) 0 ≡ not b
@@ -188,11 +256,8 @@ module _ (nx : List ℕ) (n : length nx ≡ 64) where
         (ap (λ (b : Bool). endAll? nx hs and (ends? nx 64 free and b)) (allTo-same 64 _ _ (λ i a b. ap (λ (k : ℕ). eqb k 1) (once-get i b))))
 
 pub records-same : (n : ℕ) (s : ObjectStore) → length (s .slots) ≡ 128 → length (s .waiters) ≡ 64
-    → sharedOut? (waiterNexts (s .waiters)) (heads (s .slots)) (s .«free_waiter»)
-    and (chainsBy? (waiterNexts (s .waiters)) (waiterThreads (s .waiters)) (waiterAddresses (s .waiters)) n (heads (s .slots)) 128
-    and blanks? (waiterThreads (s .waiters)) (waiterAddresses (s .waiters)) (freeChain s))
-    ≡ records? n s
-unfolding records? chained? chainsBy?
+    → recordsBy? n (heads (s .slots)) (s .waiters) (s .«free_waiter») ≡ records? n s
+unfolding records? recordsBy? chained? chainsBy?
 records-same n s a b =
     let ln : length (waiterNexts (s .waiters)) ≡ 64 = length-map (s .waiters) (λ (w : Waiter). w .next) ∙ b in
     let lh : length (heads (s .slots)) ≡ 128 = length-map (s .slots) (λ (x : Slot). headOf (x .object)) ∙ a in

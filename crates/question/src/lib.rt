@@ -1,4 +1,4 @@
-// Question 2 on values: whether a state is sound, in one pass over each table.
+// Question 2 on values: whether a state is sound. The slots are read once, into columns of numbers.
 pub mod chains;
 pub mod handles;
 pub mod objects;
@@ -16,27 +16,39 @@ pub fn state_ok(k: Kernel) -> bool
     let n = k.thread_count;
     let current = k.current_thread;
     let ts = k.threads;
+    let next_tls = k.next_tls_slot;
     let o = k.objects;
+    let l = o.slots;
+    let w = o.waiters;
+    let kept = o.thread_objects;
+    let process = o.process_object;
+    let free = o.free;
+    let free_waiter = o.free_waiter;
     let h = k.handles;
     let es = h.entries;
+    let count = h.count;
     let next = h.next;
+    let mut ks = [0u32; 128];
+    let mut rs = [0u32; 128];
+    let mut ns = [0u32; 128];
+    let mut hs = [0u32; 128];
+    let mut named = [0u32; 128];
+    let d = objects::dead_marks(ts);
+    let contents = objects::columns(l, n, &d, &mut ks, &mut rs, &mut ns, &mut hs, &mut named);
     if !threads::threads_ok(n, current, ts) {
         return false;
     }
-    if !tls::tls_ok(ts, k.next_tls_slot) {
+    if !tls::tls_ok(ts, next_tls) {
         return false;
     }
-    if !handles::rising_ok(es, h.count, next.0) {
+    if !handles::rising_ok(es, count, next.0) {
         return false;
     }
-    if !objects::held_ok(o, h, ts) {
+    if !objects::objects_ok(&ks, &rs, &ns, &named, free, es, ts, kept, process) {
         return false;
     }
-    if !objects::kept_ok(o) {
+    if !contents {
         return false;
     }
-    if !objects::contents_ok(n, ts, o) {
-        return false;
-    }
-    records::records_ok(n, o)
+    records::records_ok(n, hs, w, free_waiter)
 }

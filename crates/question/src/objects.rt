@@ -1,9 +1,8 @@
 // Objects: counts, the free chain, kept objects, and what objects name.
 use crate::chains;
+use crate::records;
 use types::object::HandleEntry;
-use types::object::HandleTable;
 use types::object::KObject;
-use types::object::ObjectStore;
 use types::object::Slot;
 use types::thread::Thread;
 use types::thread::ThreadOption;
@@ -11,30 +10,33 @@ use types::thread::ThreadStatus;
 use units::ObjectId;
 ghost use mathlib.Core.Path.{_≡_};
 ghost use Prim.Native.Nat.{_+_, _-_, _<_, _≤_};
+ghost use lib.Dec.{leb};
 ghost use lib.ListN.{length, replicate};
 ghost use Rattle.laws.specs.Logic.{_and_};
 ghost use Rattle.laws.specs.All.{All};
 ghost use Rattle.laws.specs.Walk.{walk, ends?};
-ghost use Rattle.laws.specs.Tally.{bump, tally, tallyAll};
-ghost use Rattle.sound.specs.View.{nexts, ids, handled, lists};
-ghost use Rattle.sound.specs.Objects.{names, held?, upTo128, keptIn?, isThread?, isProcess?, kept?, contents?};
+ghost use Rattle.laws.specs.Tally.{tally};
+ghost use Rattle.sound.specs.View.{kinds, refs, nexts, heads, ids};
+ghost use Rattle.sound.specs.Objects.{upTo128};
 ghost use Rattle.tally.specs.Lists.{Eight};
 ghost use Rattle.question.specs.Linear.{slot?, slots?};
-ghost use Rattle.question.specs.LinearObjects.{slotIndex, keptThread?, keptProcess?, keptThreads?, deadMark, deadMarks, live?, ownerBy?, contentBy?, contentsBy?};
+ghost use Rattle.question.specs.LinearObjects.{namedOf, named, countsOf, slotIndex, keptThread?, keptProcess?, keptThreads?, keptBy?, objectsBy?, deadMark, deadMarks, live?, ownerBy?, contentBy?, contentsBy?};
 
-fn nexts_of(l: [Slot; 128]) -> [u32; 128]
-    ensures { λ r. ⌜ r ≡ nexts l ⌝ }
-    ensures { λ _. ⌜ length l ≡ 128 ⌝ }
+// The thread that a thread object names.
+fn named_of(o: KObject) -> u32
+    ensures { λ r. ⌜ r ≡ namedOf o ⌝ }
 {
-    let mut r = [0u32; 128];
-    let mut i: usize = 0;
-    while i < 128 {
-        let s = l[i];
-        let o = s.object;
-        r[i] = types::object::next_of(o);
-        i += 1;
+    match o {
+        KObject::Free(_n) => 0,
+        KObject::Thread(t) => t,
+        KObject::Event(_e) => 0,
+        KObject::Mutex(_m) => 0,
+        KObject::Semaphore(_s) => 0,
+        KObject::Timer(_t) => 0,
+        KObject::AddressArbiter(_a) => 0,
+        KObject::Process => 0,
+        KObject::ResourceLimit => 0,
     }
-    r
 }
 
 // How often each object is named.
@@ -44,7 +46,7 @@ fn counts_of(
     kept: [ObjectId; 32],
     process: ObjectId,
 ) -> [u32; 129]
-    ensures { λ r. ⌜ r ≡ bump 129 (tally 129 (tallyAll 129 (tally 129 (replicate 129 0) (handled es)) (lists ts)) (ids kept)) (process .0) ⌝ }
+    ensures { λ r. ⌜ r ≡ countsOf es ts kept (process .0) ⌝ }
     ensures { λ _. ⌜ length es ≡ 256 ⌝ }
     ensures { λ _. ⌜ length ts ≡ 32 ⌝ }
     ensures { λ _. ⌜ All Eight ts ⌝ }
@@ -67,13 +69,11 @@ fn one_less(x: u32) -> u32
     0
 }
 
-// A slot that is named n times and stands f times on the free chain.
-fn slot_ok(s: Slot, n: u32, f: u32) -> bool
-    ensures { λ r. ⌜ r ≡ slot? s n f ⌝ }
+// A slot of this kind number and count, named n times and f times on the free chain.
+fn slot_ok(kind: u32, refs: u32, n: u32, f: u32) -> bool
+    ensures { λ r. ⌜ r ≡ slot? kind refs n f ⌝ }
 {
-    let o = s.object;
-    let dead = one_less(types::object::kind_number(o));
-    let refs = s.refcount;
+    let dead = one_less(kind);
     if refs != n {
         return false;
     }
@@ -83,37 +83,22 @@ fn slot_ok(s: Slot, n: u32, f: u32) -> bool
     f == dead
 }
 
-fn slots_ok(l: [Slot; 128], c: [u32; 129], m: [u32; 129]) -> bool
-    ensures { λ r. ⌜ r ≡ slots? l c m 128 ⌝ }
+fn slots_ok<'a>(
+    ks: &'a [u32; 128],
+    rs: &'a [u32; 128],
+    c: &'a [u32; 129],
+    m: &'a [u32; 129],
+) -> bool
+    ensures { λ r. ⌜ r ≡ slots? (now (ks .entry)) (now (rs .entry)) (now (c .entry)) (now (m .entry)) 128 ⌝ }
 {
     let mut o: usize = 128;
     while 0 < o {
-        let s = l[o - 1];
-        if !slot_ok(s, c[o], m[o]) {
+        if !slot_ok(ks[o - 1], rs[o - 1], c[o], m[o]) {
             return false;
         }
         o -= 1;
     }
     true
-}
-
-pub struct Marks {
-    pub ends: bool,
-    pub marks: [u32; 129],
-}
-
-fn free_marks(l: [Slot; 128], free: u32) -> Marks
-    ensures { λ r. ⌜ r .ends ≡ ends? (nexts l) 128 free ⌝ }
-    ensures { λ r. ⌜ r .marks ≡ tally 129 (replicate 129 0) (walk (nexts l) 128 free) ⌝ }
-    ensures { λ _. ⌜ length l ≡ 128 ⌝ }
-{
-    let nx = nexts_of(l);
-    let mut m = [0u32; 129];
-    let ends = chains::mark_chain(&nx, &mut m, free, 128);
-    Marks {
-        ends: ends,
-        marks: m,
-    }
 }
 
 fn kept_numbers_ok(l: [ObjectId; 32]) -> bool
@@ -130,68 +115,30 @@ fn kept_numbers_ok(l: [ObjectId; 32]) -> bool
     true
 }
 
-fn kept_in(s: ObjectStore) -> bool
-    ensures { λ r. ⌜ r ≡ keptIn? s ⌝ }
+fn kept_in(kept: [ObjectId; 32], process: ObjectId) -> bool
+    ensures { λ r. ⌜ r ≡ (upTo128 (ids kept) and leb (process .0) 128) ⌝ }
 {
-    let kept = s.thread_objects;
-    let process = s.process_object;
     if !kept_numbers_ok(kept) {
         return false;
     }
     process.0 <= 128
 }
 
-// Whether kept objects are slots, each count is the number of names, and the free chain has exactly the dead slots.
-pub fn held_ok(s: ObjectStore, t: HandleTable, ts: [Thread; 32]) -> bool
-    ensures { λ r. ⌜ r ≡ (keptIn? s and held? s (names t ts)) ⌝ }
+// Whether each count is the number of names c, and the free chain has exactly the dead slots.
+fn held_ok<'a>(
+    ks: &'a [u32; 128],
+    rs: &'a [u32; 128],
+    ns: &'a [u32; 128],
+    free: u32,
+    c: &'a [u32; 129],
+) -> bool
+    ensures { λ r. ⌜ r ≡ (ends? (now (ns .entry)) 128 free and slots? (now (ks .entry)) (now (rs .entry)) (now (c .entry)) (tally 129 (replicate 129 0) (walk (now (ns .entry)) 128 free)) 128) ⌝ }
 {
-    let es = t.entries;
-    let kept = s.thread_objects;
-    let process = s.process_object;
-    let l = s.slots;
-    let inside = kept_in(s);
-    let c = counts_of(es, ts, kept, process);
-    let f = free_marks(l, s.free);
-    let m = f.marks;
-    if !inside {
+    let mut m = [0u32; 129];
+    if !chains::mark_chain(ns, &mut m, free, 128) {
         return false;
     }
-    if !f.ends {
-        return false;
-    }
-    slots_ok(l, c, m)
-}
-
-fn is_thread(o: KObject, t: u32) -> bool
-    ensures { λ r. ⌜ r ≡ isThread? t o ⌝ }
-{
-    match o {
-        KObject::Free(_n) => false,
-        KObject::Thread(u) => u == t,
-        KObject::Event(_e) => false,
-        KObject::Mutex(_m) => false,
-        KObject::Semaphore(_s) => false,
-        KObject::Timer(_t) => false,
-        KObject::AddressArbiter(_a) => false,
-        KObject::Process => false,
-        KObject::ResourceLimit => false,
-    }
-}
-
-fn is_process(o: KObject) -> bool
-    ensures { λ r. ⌜ r ≡ isProcess? o ⌝ }
-{
-    match o {
-        KObject::Free(_n) => false,
-        KObject::Thread(_u) => false,
-        KObject::Event(_e) => false,
-        KObject::Mutex(_m) => false,
-        KObject::Semaphore(_s) => false,
-        KObject::Timer(_t) => false,
-        KObject::AddressArbiter(_a) => false,
-        KObject::Process => true,
-        KObject::ResourceLimit => false,
-    }
+    slots_ok(ks, rs, c, &m)
 }
 
 // Where the slot of object x stands; 0 where there is none.
@@ -208,9 +155,9 @@ fn slot_index(x: u32) -> usize
     (x - 1) as usize
 }
 
-// The number kept for thread t, and what stands at its index.
-fn kept_thread(x: u32, o: KObject, t: u32) -> bool
-    ensures { λ r. ⌜ r ≡ keptThread? x o t ⌝ }
+// The number kept for thread t, and the kind and the thread of what stands at its index.
+fn kept_thread(x: u32, kind: u32, named: u32, t: u32) -> bool
+    ensures { λ r. ⌜ r ≡ keptThread? x kind named t ⌝ }
 {
     if x == 0 {
         return true;
@@ -218,11 +165,14 @@ fn kept_thread(x: u32, o: KObject, t: u32) -> bool
     if 128 < x {
         return false;
     }
-    is_thread(o, t)
+    if kind != 1 {
+        return false;
+    }
+    named == t
 }
 
-fn kept_process(x: u32, o: KObject) -> bool
-    ensures { λ r. ⌜ r ≡ keptProcess? x o ⌝ }
+fn kept_process(x: u32, kind: u32) -> bool
+    ensures { λ r. ⌜ r ≡ keptProcess? x kind ⌝ }
 {
     if x == 0 {
         return true;
@@ -230,20 +180,18 @@ fn kept_process(x: u32, o: KObject) -> bool
     if 128 < x {
         return false;
     }
-    is_process(o)
+    kind == 7
 }
 
-fn kept_threads_ok(l: [Slot; 128], kept: [ObjectId; 32]) -> bool
-    ensures { λ r. ⌜ r ≡ keptThreads? l (ids kept) 32 ⌝ }
-    ensures { λ _. ⌜ length l ≡ 128 ⌝ }
+fn kept_threads_ok<'a>(ks: &'a [u32; 128], ts: &'a [u32; 128], kept: [ObjectId; 32]) -> bool
+    ensures { λ r. ⌜ r ≡ keptThreads? (now (ks .entry)) (now (ts .entry)) (ids kept) 32 ⌝ }
 {
     let mut t: u32 = 32;
     while 0 < t {
         let k = kept[(t - 1) as usize];
         let x = k.0;
-        let s = l[slot_index(x)];
-        let o = s.object;
-        if !kept_thread(x, o, t - 1) {
+        let i = slot_index(x);
+        if !kept_thread(x, ks[i], ts[i], t - 1) {
             return false;
         }
         t -= 1;
@@ -252,19 +200,19 @@ fn kept_threads_ok(l: [Slot; 128], kept: [ObjectId; 32]) -> bool
 }
 
 // Whether each kept object is a thread object that names its own thread, or the process object.
-pub fn kept_ok(s: ObjectStore) -> bool
-    ensures { λ r. ⌜ r ≡ kept? s ⌝ }
+fn kept_ok<'a>(
+    ks: &'a [u32; 128],
+    ts: &'a [u32; 128],
+    kept: [ObjectId; 32],
+    process: ObjectId,
+) -> bool
+    ensures { λ r. ⌜ r ≡ keptBy? (now (ks .entry)) (now (ts .entry)) (ids kept) (process .0) ⌝ }
 {
-    let l = s.slots;
-    let kept = s.thread_objects;
-    let process = s.process_object;
     let x = process.0;
-    if !kept_threads_ok(l, kept) {
+    if !kept_threads_ok(ks, ts, kept) {
         return false;
     }
-    let k = l[slot_index(x)];
-    let o = k.object;
-    kept_process(x, o)
+    kept_process(x, ks[slot_index(x)])
 }
 
 fn dead_mark(s: ThreadStatus) -> u32
@@ -282,7 +230,7 @@ fn dead_mark(s: ThreadStatus) -> u32
 }
 
 // 1 for each thread that is Dead.
-fn dead_marks(ts: [Thread; 32]) -> [u32; 32]
+pub fn dead_marks(ts: [Thread; 32]) -> [u32; 32]
     ensures { λ r. ⌜ r ≡ deadMarks ts ⌝ }
 {
     let mut r = [0u32; 32];
@@ -334,26 +282,72 @@ fn content_ok(n: u32, d: &[u32], o: KObject) -> bool
     }
 }
 
-fn all_contents_ok(n: u32, d: &[u32], l: [Slot; 128]) -> bool
+// The columns of the slots in one pass: kinds, counts, nexts of the free chain, first records, threads of thread objects.
+// Whether the threads that objects name exist, and owners are not Dead, by the marks d.
+pub fn columns(
+    l: [Slot; 128],
+    n: u32,
+    d: &[u32],
+    ks: &mut [u32; 128],
+    rs: &mut [u32; 128],
+    ns: &mut [u32; 128],
+    hs: &mut [u32; 128],
+    ts: &mut [u32; 128],
+) -> bool
+    requires { ⌜ length (now ks) ≡ 128 ⌝ }
+    requires { ⌜ length (now rs) ≡ 128 ⌝ }
+    requires { ⌜ length (now ns) ≡ 128 ⌝ }
+    requires { ⌜ length (now hs) ≡ 128 ⌝ }
+    requires { ⌜ length (now ts) ≡ 128 ⌝ }
     ensures { λ r. ⌜ r ≡ contentsBy? n (now (d .entry)) l 128 ⌝ }
+    ensures { λ _. ⌜ now (ks .exit) ≡ kinds l ⌝ }
+    ensures { λ _. ⌜ now (rs .exit) ≡ refs l ⌝ }
+    ensures { λ _. ⌜ now (ns .exit) ≡ nexts l ⌝ }
+    ensures { λ _. ⌜ now (hs .exit) ≡ heads l ⌝ }
+    ensures { λ _. ⌜ now (ts .exit) ≡ named l ⌝ }
+    ensures { λ _. ⌜ length l ≡ 128 ⌝ }
 {
-    let mut o: usize = 128;
-    while 0 < o {
-        let s = l[o - 1];
-        let k = s.object;
-        if !content_ok(n, d, k) {
-            return false;
-        }
-        o -= 1;
+    let mut ok = true;
+    let mut i: usize = 128;
+    while 0 < i {
+        i -= 1;
+        let s = l[i];
+        let o = s.object;
+        ks[i] = types::object::kind_number(o);
+        rs[i] = s.refcount;
+        ns[i] = types::object::next_of(o);
+        hs[i] = types::object::head_of(o);
+        ts[i] = named_of(o);
+        ok = records::both(ok, content_ok(n, d, o));
     }
-    true
+    ok
 }
 
-// Whether the threads that objects name exist, and owners are not Dead.
-pub fn contents_ok(n: u32, ts: [Thread; 32], s: ObjectStore) -> bool
-    ensures { λ r. ⌜ r ≡ contents? n ts s ⌝ }
+// Whether kept objects are slots, each count is the number of names, the free chain has exactly the dead slots, and each
+// kept object is what it is kept for; from the columns ks, rs, ns and named of the slots.
+pub fn objects_ok<'a>(
+    ks: &'a [u32; 128],
+    rs: &'a [u32; 128],
+    ns: &'a [u32; 128],
+    named: &'a [u32; 128],
+    free: u32,
+    es: [HandleEntry; 256],
+    ts: [Thread; 32],
+    kept: [ObjectId; 32],
+    process: ObjectId,
+) -> bool
+    ensures { λ r. ⌜ r ≡ objectsBy? (now (ks .entry)) (now (rs .entry)) (now (ns .entry)) (now (named .entry)) free (countsOf es ts kept (process .0)) (ids kept) (process .0) ⌝ }
+    ensures { λ _. ⌜ length es ≡ 256 ⌝ }
+    ensures { λ _. ⌜ length ts ≡ 32 ⌝ }
+    ensures { λ _. ⌜ All Eight ts ⌝ }
+    ensures { λ _. ⌜ length kept ≡ 32 ⌝ }
 {
-    let d = dead_marks(ts);
-    let l = s.slots;
-    all_contents_ok(n, &d, l)
+    let c = counts_of(es, ts, kept, process);
+    if !kept_in(kept, process) {
+        return false;
+    }
+    if !held_ok(ks, rs, ns, free, &c) {
+        return false;
+    }
+    kept_ok(ks, named, kept, process)
 }

@@ -1,32 +1,13 @@
 // Records of arbiters: their chains share out all 64, none has a pair twice, and free ones are blank.
 use crate::chains;
-use types::object::ObjectStore;
-use types::object::Slot;
+use types::object::Waiter;
 ghost use mathlib.Core.Path.{_≡_};
 ghost use lib.ListN.{length};
 ghost use Rattle.laws.specs.Logic.{_and_};
 ghost use Rattle.laws.specs.Tally.{tallyAll};
-ghost use Rattle.sound.specs.View.{heads};
-ghost use Rattle.sound.specs.Records.{records?};
-ghost use Rattle.question.specs.LinearObjects.{endAll?, walkAll, onceAll?, sharedOut?, chainsBy?};
+ghost use Rattle.question.specs.LinearObjects.{endAll?, walkAll, onceAll?, sharedOut?, chainsBy?, recordsBy?};
 
-// The first record of each object.
-fn heads_of(l: [Slot; 128]) -> [u32; 128]
-    ensures { λ r. ⌜ r ≡ heads l ⌝ }
-    ensures { λ _. ⌜ length l ≡ 128 ⌝ }
-{
-    let mut r = [0u32; 128];
-    let mut i: usize = 0;
-    while i < 128 {
-        let s = l[i];
-        let o = s.object;
-        r[i] = types::object::head_of(o);
-        i += 1;
-    }
-    r
-}
-
-fn both(a: bool, b: bool) -> bool
+pub fn both(a: bool, b: bool) -> bool
     ensures { λ r. ⌜ r ≡ (a and b) ⌝ }
 {
     if !a {
@@ -91,14 +72,11 @@ fn chains_ok<'a>(nx: &'a [u32], ts: &'a [u32], ad: &'a [u32], n: u32, hs: [u32; 
     true
 }
 
-// Whether the chains, the free one included, share out the records, an arbiter's name threads below n and no pair twice, and free ones are blank.
-pub fn records_ok(n: u32, s: ObjectStore) -> bool
-    ensures { λ r. ⌜ r ≡ records? n s ⌝ }
+// Whether the chains from hs and the free one share out the records, an arbiter's name threads below n and no pair twice, and free ones are blank.
+pub fn records_ok(n: u32, hs: [u32; 128], w: [Waiter; 64], free: u32) -> bool
+    ensures { λ r. ⌜ r ≡ recordsBy? n hs w free ⌝ }
+    ensures { λ _. ⌜ length w ≡ 64 ⌝ }
 {
-    let l = s.slots;
-    let w = s.waiters;
-    let free = s.free_waiter;
-    let hs = heads_of(l);
     let nx = tally::columns::nexts_of(w);
     if !shared_out(nx, hs, free) {
         return false;

@@ -10,8 +10,8 @@ ghost use lib.ListN.{length};
 ghost use Rattle.laws.specs.All.{All};
 ghost use Rattle.laws.specs.Tally.{bump, tally, tallyAll};
 ghost use Rattle.sound.specs.Tls.{held};
-ghost use Rattle.sound.specs.View.{ids, handled, lists};
-ghost use Rattle.tally.specs.Lists.{Eight, slotOf};
+ghost use Rattle.sound.specs.View.{ids};
+ghost use Rattle.tally.specs.Lists.{Eight, slotOf, nameOf, handleNames, names, listNames};
 
 // One more for o.
 pub fn bump_at(c: &mut [u32; 129], o: u32)
@@ -28,16 +28,27 @@ pub fn bump_at(c: &mut [u32; 129], o: u32)
     c[i] = v + 1;
 }
 
+// What a number is counted as: 0 names no object, and is counted as a number that has no place.
+fn name(x: u32) -> u32
+    ensures { λ r. ⌜ r ≡ nameOf x ⌝ }
+{
+    if x == 0 {
+        return 129;
+    }
+    x
+}
+
 // One more for the object of each handle.
 pub fn tally_entries(c: &mut [u32; 129], es: [HandleEntry; 256])
-    ensures { λ _. ⌜ now (c .exit) ≡ tally 129 (now (c .entry)) (handled es) ⌝ }
+    ensures { λ _. ⌜ now (c .exit) ≡ tally 129 (now (c .entry)) (handleNames es) ⌝ }
     ensures { λ _. ⌜ length es ≡ 256 ⌝ }
 {
     let mut i: usize = 0;
     while i < 256 {
         let e = es[i];
         let o = e.object;
-        bump_at(c, o.0);
+        let n = name(o.0);
+        bump_at(c, n);
         i += 1;
     }
 }
@@ -55,9 +66,22 @@ pub fn tally_list(c: &mut [u32; 129], l: [ObjectId; 8])
     }
 }
 
+fn tally_names(c: &mut [u32; 129], l: [ObjectId; 8])
+    ensures { λ _. ⌜ now (c .exit) ≡ tally 129 (now (c .entry)) (names l) ⌝ }
+    ensures { λ _. ⌜ length l ≡ 8 ⌝ }
+{
+    let mut i: usize = 0;
+    while i < 8 {
+        let o = l[i];
+        let n = name(o.0);
+        bump_at(c, n);
+        i += 1;
+    }
+}
+
 // One more for each object that a thread's list names.
 pub fn tally_lists(c: &mut [u32; 129], ts: [Thread; 32])
-    ensures { λ _. ⌜ now (c .exit) ≡ tallyAll 129 (now (c .entry)) (lists ts) ⌝ }
+    ensures { λ _. ⌜ now (c .exit) ≡ tallyAll 129 (now (c .entry)) (listNames ts) ⌝ }
     ensures { λ _. ⌜ length ts ≡ 32 ⌝ }
     ensures { λ _. ⌜ All Eight ts ⌝ }
 {
@@ -65,20 +89,21 @@ pub fn tally_lists(c: &mut [u32; 129], ts: [Thread; 32])
     while i < 32 {
         let t = ts[i];
         let l = t.wait_objects;
-        tally_list(c, l);
+        tally_names(c, l);
         i += 1;
     }
 }
 
 // One more for each kept thread object.
 pub fn tally_kept(c: &mut [u32; 129], l: [ObjectId; 32])
-    ensures { λ _. ⌜ now (c .exit) ≡ tally 129 (now (c .entry)) (ids l) ⌝ }
+    ensures { λ _. ⌜ now (c .exit) ≡ tally 129 (now (c .entry)) (names l) ⌝ }
     ensures { λ _. ⌜ length l ≡ 32 ⌝ }
 {
     let mut i: usize = 0;
     while i < 32 {
         let o = l[i];
-        bump_at(c, o.0);
+        let n = name(o.0);
+        bump_at(c, n);
         i += 1;
     }
 }

@@ -5,16 +5,17 @@ use native.Mathlib.Omega.{arith}
 use lib.ListN.{length, drop}
 use Rattle.laws.specs.Tally.{tally, tally-more, tally-none}
 use Rattle.types.specs.declared.object.HandleEntry.{HandleEntry}
-use Rattle.sound.specs.View.{handled}
+use Rattle.tally.specs.Lists.{nameOf, handleNames}
 use borrow.Author.Needs.{needs}
 use Rattle.tally.proofs.tally_entries.Statement.{statement}
 use Rattle.tally.proofs.tally_entries.Tie as tie
 use Rattle.tally.proofs.tally_entries.Reads as reads
 use Rattle.tally.proofs.tally_entries.Lts as lts
 use Rattle.tally.proofs.bump_at.Reads as bump-at-reads
+use Rattle.tally.proofs.name.Reads as name-reads
 
 abbrev Inv-loop : tie.InvT-loop
-Inv-loop c₀ es i₀ c i = (i ≤ 256) × (tally 129 c (handled (drop i es)) ≡ tally 129 c₀ (handled es))
+Inv-loop c₀ es i₀ c i = (i ≤ 256) × (tally 129 c (handleNames (drop i es)) ≡ tally 129 c₀ (handleNames es))
 
 abbrev μ-loop : tie.MeasureT-loop
 μ-loop c₀ es i₀ c i = 256 - i
@@ -28,6 +29,9 @@ mul-e c = search needs
 array-copy-out-e : tie.Need-array-copy-out-e Inv-loop μ-loop
 array-copy-out-e c = search needs
 
+name-requires : tie.Need-name-requires Inv-loop μ-loop
+name-requires c κs = search needs
+
 bump-at-requires : tie.Need-bump-at-requires Inv-loop μ-loop
 bump-at-requires c κs = search needs
 
@@ -39,11 +43,11 @@ loop-less c = search needs
 
 loop-again : tie.Need-loop-again Inv-loop μ-loop
 loop-again c =
-    let l = c .before .before .before .before .before .loop in
-    let s = c .before .before .before .before .before .before in
+    let l = c .before .before .before .before .before .before .loop in
+    let s = c .before .before .before .before .before .before .before in
     let n : length (s .args .t2) ≡ 256 = omega (arith, s .good) in
     let h : l .i < length (s .args .t2) = omega arith in
-    (search needs, rw (c .bump-at .ensures) (sym (tally-more 129 (λ (e : HandleEntry). e .object .0) (s .args .t2) (l .i) (record { handle = record { 0 = 0 }; object = record { 0 = 0 } }) (l .c) h) ∙ l .inv .1))
+    (search needs, rw (c .bump-at .ensures, c .before .before .name .ensures) (sym (tally-more 129 (λ (e : HandleEntry). nameOf (e .object .0)) (s .args .t2) (l .i) (record { handle = record { 0 = 0 }; object = record { 0 = 0 } }) (l .c) h) ∙ l .inv .1))
 
 returns : tie.Need-returns Inv-loop μ-loop
 returns c =
@@ -51,7 +55,7 @@ returns c =
     let s = c .before .before in
     let n : length (s .args .t2) ≡ 256 = omega (arith, s .good) in
     let e : length (s .args .t2) ≤ l .i = omega arith in
-    (sym (tally-none 129 (λ (e : HandleEntry). e .object .0) (s .args .t2) (l .c) (l .i) e) ∙ l .inv .1, n)
+    (sym (tally-none 129 (λ (e : HandleEntry). nameOf (e .object .0)) (s .args .t2) (l .c) (l .i) e) ∙ l .inv .1, n)
 
 pub tally-entries-spec : {M : Type 1} → statement M
 tally-entries-spec =
@@ -62,6 +66,7 @@ tally-entries-spec =
     loop-holds
     mul-e
     array-copy-out-e
+    name-requires
     bump-at-requires
     add-i
     loop-less

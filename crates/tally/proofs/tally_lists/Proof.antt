@@ -7,17 +7,17 @@ use lib.Seq.{take-all}
 use Rattle.laws.specs.All.{All, all-take-more}
 use Rattle.laws.specs.Tally.{tallyAll, tallyAll-more, tallyAll-none}
 use Rattle.types.specs.declared.thread.Thread.{Thread}
-use Rattle.sound.specs.View.{ids, lists, noThread}
-use Rattle.tally.specs.Lists.{Eight}
+use Rattle.sound.specs.View.{noThread}
+use Rattle.tally.specs.Lists.{Eight, names, listNames}
 use borrow.Author.Needs.{needs}
 use Rattle.tally.proofs.tally_lists.Statement.{statement}
 use Rattle.tally.proofs.tally_lists.Tie as tie
 use Rattle.tally.proofs.tally_lists.Reads as reads
 use Rattle.tally.proofs.tally_lists.Lts as lts
-use Rattle.tally.proofs.tally_list.Reads as tally-list-reads
+use Rattle.tally.proofs.tally_names.Reads as tally-names-reads
 
 abbrev Inv-loop : tie.InvT-loop
-Inv-loop c₀ ts i₀ c i = (i ≤ 32) × ((tallyAll 129 c (lists (drop i ts)) ≡ tallyAll 129 c₀ (lists ts)) × All Eight (take i ts))
+Inv-loop c₀ ts i₀ c i = (i ≤ 32) × ((tallyAll 129 c (listNames (drop i ts)) ≡ tallyAll 129 c₀ (listNames ts)) × All Eight (take i ts))
 
 abbrev μ-loop : tie.MeasureT-loop
 μ-loop c₀ ts i₀ c i = 32 - i
@@ -31,8 +31,8 @@ mul-t c = search needs
 array-copy-out-t : tie.Need-array-copy-out-t Inv-loop μ-loop
 array-copy-out-t c = search needs
 
-tally-list-requires : tie.Need-tally-list-requires Inv-loop μ-loop
-tally-list-requires c κs = search needs
+tally-names-requires : tie.Need-tally-names-requires Inv-loop μ-loop
+tally-names-requires c κs = search needs
 
 add-i : tie.Need-add-i Inv-loop μ-loop
 add-i c = search needs
@@ -48,8 +48,8 @@ loop-again c =
     let h : l .i < length (s .args .t2) = omega arith in (
       search needs,
       (
-        rw (c .tally-list .ensures .0) (sym (tallyAll-more 129 (λ (t : Thread). ids (t .«wait_objects»)) (s .args .t2) (l .i) noThread (l .c) h) ∙ l .inv .1 .0),
-        all-take-more Eight (s .args .t2) (l .i) noThread h (l .inv .1 .1) (c .tally-list .ensures .1),
+        rw (c .tally-names .ensures .0) (sym (tallyAll-more 129 (λ (t : Thread). names (t .«wait_objects»)) (s .args .t2) (l .i) noThread (l .c) h) ∙ l .inv .1 .0),
+        all-take-more Eight (s .args .t2) (l .i) noThread h (l .inv .1 .1) (c .tally-names .ensures .1),
       ),
     )
 
@@ -59,7 +59,7 @@ returns c =
     let s = c .before .before in
     let n : length (s .args .t2) ≡ 32 = omega (arith, s .good) in
     let e : length (s .args .t2) ≤ l .i = omega arith in
-    (sym (tallyAll-none 129 (λ (t : Thread). ids (t .«wait_objects»)) (s .args .t2) (l .c) (l .i) e) ∙ l .inv .1 .0, (n, rw (take-all (l .i) (s .args .t2) e) at (l .inv .1 .1)))
+    (sym (tallyAll-none 129 (λ (t : Thread). names (t .«wait_objects»)) (s .args .t2) (l .c) (l .i) e) ∙ l .inv .1 .0, (n, rw (take-all (l .i) (s .args .t2) e) at (l .inv .1 .1)))
 
 pub tally-lists-spec : {M : Type 1} → statement M
 tally-lists-spec =
@@ -70,7 +70,7 @@ tally-lists-spec =
     loop-holds
     mul-t
     array-copy-out-t
-    tally-list-requires
+    tally-names-requires
     add-i
     loop-less
     loop-again

@@ -1,5 +1,7 @@
 //! runs the port's static library beside the oracle, see README.md.
+mod bench;
 mod blocks;
+mod busy;
 mod bytes;
 mod codec;
 mod compare;
@@ -14,7 +16,7 @@ mod state;
 use oracle::gen::PROFILES;
 use std::process::ExitCode;
 
-const USAGE: &str = "usage: driver compare [--seed S] [--count N] [--profile P] [--calls NAME,..] [--text] | driver list | driver blocks DIR N";
+const USAGE: &str = "usage: driver compare [--seed S] [--count N] [--profile P] [--calls NAME,..] [--text] | driver list | driver blocks DIR N | driver bench [--rounds N]";
 
 fn named(args: &[String], name: &str) -> Option<String> { args.iter().position(|a| a == name).and_then(|i| args.get(i + 1).cloned()) }
 
@@ -38,6 +40,11 @@ fn run(args: &[String]) -> Result<bool, String> {
             let (dir, count) = (args.get(1).ok_or(USAGE)?, args.get(2).and_then(|n| n.parse().ok()).ok_or(USAGE)?);
             blocks::blocks(dir.as_ref(), count).map_err(|e| e.to_string())?;
             Ok(true)
+        }
+        Some("bench") => {
+            let rounds = named(args, "--rounds").map_or(Ok(101), |v| v.parse::<usize>().ok().filter(|n| *n > 0).ok_or(format!("--rounds {v}")))?;
+            oracle::quiet_panics();
+            bench::bench(rounds)
         }
         _ => Err(USAGE.into()),
     }

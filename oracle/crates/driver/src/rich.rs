@@ -83,10 +83,15 @@ pub fn rich(r: &mut Rng, size: &Size) -> State {
     let numbers = shuffled(r, RECORDS);
     s.link_records(&arbiters, &numbers);
 
+    count_names(&mut s);
+    s
+}
+
+/// the reference counts, from 0: handles, wait lists, kept objects.
+pub fn count_names(s: &mut State) {
     let lists = s.threads.iter().flat_map(|t| t.wait_objects.iter().copied());
     let names: Vec<u32> = s.handles.iter().map(|h| h.1).chain(lists).chain(s.kept.iter().copied()).chain([s.process_object]).filter(|o| *o != 0).collect();
     for o in names { s.slots[o as usize - 1].refcount += 1; }
-    s
 }
 
 fn thread(r: &mut Rng) -> Thread {

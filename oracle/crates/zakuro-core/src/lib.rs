@@ -8,6 +8,10 @@ use kernel::Kernel;
 use std::collections::BTreeSet;
 use zakuro_cpu::Cpu;
 
+/// how the original is built; zakuro-core-wrap, which has no build script, is not asked.
+pub const OPT_LEVEL: &str = match option_env!("ORIGINAL_OPT_LEVEL") { Some(level) => level, None => "?" };
+pub const DEBUG_ASSERTIONS: bool = cfg!(debug_assertions);
+
 pub const CYCLES_PER_FRAME: u64 = 4_481_136;
 
 /// the fields of the real System that svc.rs touches.

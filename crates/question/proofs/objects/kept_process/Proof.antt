@@ -13,12 +13,9 @@ returns-2 : tie.Need-returns-2
 unfolding keptProcess? _or_ _and_
 returns-2 c = rw (ne-eqb _ _ (c .before .if1 .left), lt-leb _ _ (c .if2 .taken))
 
-is-process-requires : tie.Need-is-process-requires
-is-process-requires c κs = search needs
-
 returns-3 : tie.Need-returns-3
 unfolding keptProcess? _or_ _and_
-returns-3 c = rw (ne-eqb _ _ (c .before .before .if1 .left), le-leb _ _ (c .before .if2 .left)) (c .is-process .ensures)
+returns-3 c = rw (ne-eqb _ _ (c .before .if1 .left), le-leb _ _ (c .if2 .left))
 
 pub kept-process-spec : {M : Type 1} → statement M
-kept-process-spec = tie.close (tie.spec returns returns-2 is-process-requires returns-3)
+kept-process-spec = tie.close (tie.spec returns returns-2 returns-3)

@@ -5,9 +5,6 @@ use borrow.Author.Needs.{needs}
 use Rattle.question.proofs.objects.slot_ok.Statement.{statement}
 use Rattle.question.proofs.objects.slot_ok.Tie as tie
 
-kind-number-requires : tie.Need-kind-number-requires
-kind-number-requires c κs = search needs
-
 one-less-requires : tie.Need-one-less-requires
 one-less-requires c κs = search needs
 
@@ -21,20 +18,17 @@ one-less-requires-2 c κs = search needs
 returns-2 : tie.Need-returns-2
 unfolding slot? _and_
 returns-2 c =
-    let k = c .before .before .before .before in
-    rw (eq-eqb _ _ (c .before .before .if1 .left), ← k .kind-number .ensures, ← c .before .before .before .one-less .ensures, ← c .before .one-less2 .ensures, ne-eqb _ _ (c .if2 .taken))
+    rw (eq-eqb _ _ (c .before .before .if1 .left), ← c .before .before .before .one-less .ensures, ← c .before .one-less2 .ensures, ne-eqb _ _ (c .if2 .taken))
 
 returns-3 : tie.Need-returns-3
 unfolding slot? _and_
 returns-3 c =
-    let k = c .before .before .before .before in
-    rw (eq-eqb _ _ (c .before .before .if1 .left), ← k .kind-number .ensures, ← c .before .before .before .one-less .ensures, ← c .before .one-less2 .ensures, eq-eqb _ _ (c .if2 .left))
+    rw (eq-eqb _ _ (c .before .before .if1 .left), ← c .before .before .before .one-less .ensures, ← c .before .one-less2 .ensures, eq-eqb _ _ (c .if2 .left))
 
 pub slot-ok-spec : {M : Type 1} → statement M
 slot-ok-spec =
     tie.close
     (tie.spec
-    kind-number-requires
     one-less-requires
     returns
     one-less-requires-2

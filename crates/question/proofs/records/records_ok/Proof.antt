@@ -1,13 +1,18 @@
+use borrow.Author.Needs.{needs}
 use mathlib.Core.Path.{sym, _∙_}
 use borrow.Author.Tests.{not-true, not-false}
 use Rattle.laws.specs.Logic.{and-no, and-yes}
-use Rattle.question.specs.Same.{records-same}
-use borrow.Author.Needs.{needs}
+use Rattle.question.specs.LinearObjects.{recordsBy?}
 use Rattle.question.proofs.records.records_ok.Statement.{statement}
 use Rattle.question.proofs.records.records_ok.Tie as tie
-
-heads-of-requires : tie.Need-heads-of-requires
-heads-of-requires c κs = search needs
+use Rattle.question.proofs.records.records_ok.Reads as reads
+use Rattle.question.proofs.records.records_ok.Lts as lts
+use Rattle.question.proofs.chains.blanks_ok.Reads as blanks-ok-reads
+use Rattle.question.proofs.records.chains_ok.Reads as chains-ok-reads
+use Rattle.question.proofs.records.shared_out.Reads as shared-out-reads
+use Rattle.tally.proofs.columns.addresses_of.Reads as addresses-of-reads
+use Rattle.tally.proofs.columns.nexts_of.Reads as nexts-of-reads
+use Rattle.tally.proofs.columns.threads_of.Reads as threads-of-reads
 
 nexts-of-requires : tie.Need-nexts-of-requires
 nexts-of-requires c κs = search needs
@@ -16,13 +21,11 @@ shared-out-requires : tie.Need-shared-out-requires
 shared-out-requires c κs = search needs
 
 returns : tie.Need-returns
+unfolding recordsBy?
 returns c =
-    let a = c .before .before .before .before .before .before .args in
-    let h = c .before .before .before .heads-of .ensures in
     let x = c .before .before .nexts-of .ensures in
-    let o = rw (x .0, h .0) at (c .before .shared-out .ensures) in
-    let e = records-same (a .n) (a .s) (h .1) (x .1) in
-    sym (and-no _ _ (sym o ∙ not-true _ (c .if1 .taken))) ∙ e
+    let o = rw (x .0) at (c .before .shared-out .ensures) in
+    (sym (and-no _ _ (sym o ∙ not-true _ (c .if1 .taken))), x .1)
 
 threads-of-requires : tie.Need-threads-of-requires
 threads-of-requires c κs = search needs
@@ -43,16 +46,15 @@ chains-ok-requires : tie.Need-chains-ok-requires
 chains-ok-requires c κs = search needs
 
 returns-2 : tie.Need-returns-2
+unfolding recordsBy?
 returns-2 c =
-    let a = c .before .before .before .before .before .before .before .before .before .before .before .before .before .args in
-    let h = c .before .before .before .before .before .before .before .before .before .before .heads-of .ensures in
-    let x = c .before .before .before .before .before .before .before .before .before .nexts-of .ensures in
-    let o = rw (x .0, h .0) at (c .before .before .before .before .before .before .before .before .shared-out .ensures) in
-    let e = records-same (a .n) (a .s) (h .1) (x .1) in
+    let p = c .before .before .before .before .before .before .before in
+    let x = p .before .before .nexts-of .ensures in
+    let o = rw (x .0) at (p .before .shared-out .ensures) in
     let t = c .before .before .before .before .before .before .threads-of .ensures in
     let d = c .before .before .before .before .before .addresses-of .ensures in
-    let g = rw (x .0, t, d, h .0) at (c .before .chains-ok .ensures) in
-    sym (and-yes _ _ (sym o ∙ not-false _ (c .before .before .before .before .before .before .before .if1 .left)) ∙ and-no _ _ (sym g ∙ not-true _ (c .if2 .taken))) ∙ e
+    let g = rw (x .0, t, d) at (c .before .chains-ok .ensures) in
+    (sym (and-yes _ _ (sym o ∙ not-false _ (p .if1 .left)) ∙ and-no _ _ (sym g ∙ not-true _ (c .if2 .taken))), x .1)
 
 slice-aggregate-blanks-ok : tie.Need-slice-aggregate-blanks-ok
 slice-aggregate-blanks-ok c = search needs
@@ -67,23 +69,22 @@ blanks-ok-requires : tie.Need-blanks-ok-requires
 blanks-ok-requires c κs = search needs
 
 returns-3 : tie.Need-returns-3
+unfolding recordsBy?
 returns-3 c =
-    let a = c .before .before .before .before .before .before .before .before .before .before .before .before .before .before .before .before .before .args in
-    let h = c .before .before .before .before .before .before .before .before .before .before .before .before .before .before .heads-of .ensures in
-    let x = c .before .before .before .before .before .before .before .before .before .before .before .before .before .nexts-of .ensures in
-    let o = rw (x .0, h .0) at (c .before .before .before .before .before .before .before .before .before .before .before .before .shared-out .ensures) in
-    let e = records-same (a .n) (a .s) (h .1) (x .1) in
-    let t = c .before .before .before .before .before .before .before .before .before .before .threads-of .ensures in
-    let d = c .before .before .before .before .before .before .before .before .before .addresses-of .ensures in
-    let g = rw (x .0, t, d, h .0) at (c .before .before .before .before .before .chains-ok .ensures) in
+    let q = c .before .before .before .before in
+    let p = q .before .before .before .before .before .before .before in
+    let x = p .before .before .nexts-of .ensures in
+    let o = rw (x .0) at (p .before .shared-out .ensures) in
+    let t = q .before .before .before .before .before .before .threads-of .ensures in
+    let d = q .before .before .before .before .before .addresses-of .ensures in
+    let g = rw (x .0, t, d) at (q .before .chains-ok .ensures) in
     let b = rw (x .0, t, d) at (c .blanks-ok .ensures) in
-    b ∙ sym (and-yes _ _ (sym o ∙ not-false _ (c .before .before .before .before .before .before .before .before .before .before .before .if1 .left)) ∙ and-yes _ _ (sym g ∙ not-false _ (c .before .before .before .before .if2 .left))) ∙ e
+    (b ∙ sym (and-yes _ _ (sym o ∙ not-false _ (p .if1 .left)) ∙ and-yes _ _ (sym g ∙ not-false _ (q .if2 .left))), x .1)
 
 pub records-ok-spec : {M : Type 1} → statement M
 records-ok-spec =
     tie.close
     (tie.spec
-    heads-of-requires
     nexts-of-requires
     shared-out-requires
     returns

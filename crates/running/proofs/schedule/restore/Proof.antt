@@ -1,0 +1,32 @@
+use mathlib.Core.Path.{_≡_, refl, ap, sym, _∙_}
+use native.Mathlib.Omega.{arith}
+use borrow.Author.Tests.{lt-ltb, le-ltb, eq-eqb, ne-eqb, not-true, not-false}
+use borrow.Author.Needs.{needs}
+use Rattle.running.proofs.schedule.restore.Statement.{statement}
+use Rattle.running.proofs.schedule.restore.Tie as tie
+use Rattle.running.proofs.schedule.restore.Reads as reads
+use Rattle.running.proofs.schedule.restore.Lts as lts
+use Rattle.running.proofs.schedule.restore_at.Reads as restore-at-reads
+
+enum-told : tie.Need-enum-told
+enum-told c = search needs
+
+enum-known-restored : tie.Need-enum-known-restored
+enum-known-restored c = search needs
+
+restore-at-requires : tie.Need-restore-at-requires
+restore-at-requires c κs = search needs
+
+returns : tie.Need-returns
+returns c = search needs
+
+same-length : tie.Need-same-length
+same-length c = search needs
+
+returns-2 : tie.Need-returns-2
+returns-2 c = rw (c .before .before .before .before .before .restored .given .1) (c .before .before .restore-at .ensures)
+
+pub restore-spec : {M : Type 1} → statement M
+restore-spec =
+    tie.close
+    (tie.spec enum-told enum-known-restored restore-at-requires returns same-length returns-2)

@@ -1,0 +1,2 @@
+// The pass, over what is lent.
+pub mod schedule;
