@@ -1,5 +1,3 @@
 -- The laws that the proofs of `blocking` cite.
 pub mod Laws
 pub mod Opens
-pub mod Wakes
-pub mod ByKind

@@ -1,4 +1,2 @@
--- The guest calls that can block, as their code looks at them.
+-- The guest calls that wait on objects, as their code looks at them.
 pub mod Waits
-pub mod Park
-pub mod Marks

@@ -1,6 +1,3 @@
-// The guest calls that can block (svc.rs).
-pub mod arbiter;
-pub mod park;
+// The guest calls that wait on objects (svc.rs).
 pub mod wait_n;
 pub mod waits;
-pub mod wake;

@@ -7,8 +7,8 @@ use native.Mathlib.Numerals.{add-one}
 use native.Mathlib.Omega.{arith}
 use lib.Dec.{eqb, leb, ltb}
 use borrow.Author.Tests.{ne-eqb, eqb-false, ltb-false}
-use lib.ListN.{length, getD, drop, set, drop-of-length-le, List·getD-eq-default}
-use lib.Seq.{drop-cons, set-out}
+use lib.ListN.{length, getD, drop, drop-of-length-le, List·getD-eq-default}
+use lib.Seq.{drop-cons}
 use Rattle.laws.specs.Logic.{pick, _and_, _or_}
 use Rattle.types.specs.declared.thread.ThreadOption.{ThreadOption}
 use Rattle.types.specs.declared.thread.ThreadOption.the-variants.{NoThread, SomeThread}
@@ -19,19 +19,10 @@ use Rattle.pass.specs.Pick.{isRunnable, othersFrom, better, leastPriority, runs
 use Rattle.thread.specs.Threads.{least}
 use Rattle.scheduler.specs.Best.{option, stands?}
 use Rattle.scheduler.specs.Best as computed
-use Rattle.pass.specs.Schedule.{withRun, markWaited}
 
 -- a number past the places reads as no thread
 pub far : (ts : List Thread) (t : ℕ) → length ts ≤ t → threadAt ts t ≡ noThread
 far ts t h = List·getD-eq-default ts noThread h
-
--- and marks nobody
-pub mark-far : (ts : List Thread) (t : ℕ) → length ts ≤ t → ts ≡ markWaited ts (SomeThread t)
-mark-far ts t h = go (isRunnable (threadAt ts t .status))
-  where
-    go : (b : Bool) → ts ≡ pick b ts (set ts t (withRun (threadAt ts t) true (threadAt ts t .«running_since» .0)))
-    go true = refl
-    go false = sym (set-out ts t (withRun (threadAt ts t) true (threadAt ts t .«running_since» .0)) h)
 
 -- ---- the least priority
 pub best-step : (ts : List Thread) (i b : ℕ) → i < length ts → leastPriority b (drop i ts) ≡ leastPriority (better b (getD ts i noThread)) (drop (i + 1) ts)

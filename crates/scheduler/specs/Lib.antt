@@ -1,4 +1,5 @@
 -- The choice, the switch and a quiet release as they are computed.
 pub mod Best
 pub mod Switch
+pub mod Place
 pub mod Alone

@@ -90,15 +90,6 @@ fn stays(c: ThreadOption, n: ThreadOption) -> bool
     }
 }
 
-fn left_threads(same: bool, ts: [Thread; 32], c: ThreadOption) -> [Thread; 32]
-    ensures { λ r. ⌜ r ≡ pick same ts (def.leaveCore ts c) ⌝ }
-{
-    if same {
-        return ts;
-    }
-    run::leave_core(ts, c)
-}
-
 fn unless(same: bool, t: ThreadOption) -> ThreadOption
     ensures { λ r. ⌜ r ≡ computed.unless same t ⌝ }
 {
@@ -120,31 +111,38 @@ fn switches(same: bool, c: ThreadOption, n: ThreadOption) -> bool
     !is_none(n)
 }
 
-fn switch(
-    k: Kernel,
-    s: ObjectStore,
-    ts: [Thread; 32],
-    relief: bool,
-    c: ThreadOption,
-    n: ThreadOption,
-) -> Passed
-    ensures { λ r. ⌜ r ≡ def.switchAs k s ts relief c n ⌝ }
+// The state k with the objects s and the threads ts after the tries. In place: threads that are handed on would be copied.
+pub fn choose(k: Kernel, s: ObjectStore, ts: [Thread; 32], tick: u64) -> Passed
+    ensures { λ r. ⌜ r ≡ def.choose k (record { objects = s; threads = ts }) tick ⌝ }
 {
-    let same = stays(c, n);
-    let threads = run::take_core(left_threads(same, ts, c), n);
-    let saved = unless(same, c);
-    let restored = unless(same, n);
+    let current = k.current_thread;
+    let mut l = ts;
+    let c = run::place_of(current);
+    l[c] = run::mark_waited(current, l[c]);
+    let first = pick::pick_next(l, current);
+    let f = run::place_of(first);
+    l[f] = run::begin_run(first, l[f], tick);
+    let starve = run::starving(first, l[f], tick);
+    let next = chosen(l, first, starve, k.relief);
+    let n = run::place_of(next);
+    l[n] = run::begin_run(next, l[n], tick);
+    let same = stays(current, next);
+    l[c] = run::leave_core(same, current, l[c]);
+    l[n] = run::take_core(next, l[n]);
+    let saved = unless(same, current);
+    let restored = unless(same, next);
     let handles = k.handles;
-    let blocked = is_none(n);
-    let turned = switches(same, c, n);
+    let blocked = is_none(next);
+    let turned = switches(same, current, next);
+    let relief = flipped(starve, k.relief);
     Passed {
         kernel: Kernel {
             status_word: k.status_word,
             objects: s,
             handles: handles,
-            threads: threads,
+            threads: l,
             thread_count: k.thread_count,
-            current_thread: n,
+            current_thread: next,
             next_tls_slot: k.next_tls_slot,
             next_guest_id: k.next_guest_id,
             all_blocked: blocked,
@@ -156,18 +154,4 @@ fn switch(
         restored: restored,
         switched: turned,
     }
-}
-
-// The state k with the objects s and the threads ts after the tries.
-pub fn choose(k: Kernel, s: ObjectStore, ts: [Thread; 32], tick: u64) -> Passed
-    ensures { λ r. ⌜ r ≡ def.choose k (record { objects = s; threads = ts }) tick ⌝ }
-{
-    let current = k.current_thread;
-    let waited = run::mark_waited(ts, current);
-    let first = pick::pick_next(waited, current);
-    let begun = run::begin_run(waited, first, tick);
-    let starve = run::starving(begun, first, tick);
-    let next = chosen(begun, first, starve, k.relief);
-    let threads = run::begin_run(begun, next, tick);
-    switch(k, s, threads, flipped(starve, k.relief), current, next)
 }

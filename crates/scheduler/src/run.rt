@@ -7,9 +7,11 @@ use units::Ticks;
 ghost use mathlib.Core.Path.{_≡_};
 ghost use Prim.Native.Nat.{_+_, _-_, _<_, _≤_};
 ghost use lib.Dec.{ltb};
-ghost use Rattle.sound.specs.View.{threadAt};
+ghost use Rattle.laws.specs.Logic.{pick};
+ghost use Rattle.thread.specs.Thread.{withStatus};
 ghost use Rattle.pass.specs.Schedule as def;
-ghost use Rattle.scheduler.specs.Switch.{takeCoreIf};
+ghost use Rattle.scheduler.specs.Place.{place, placeOf, placed};
+ghost use Rattle.scheduler.specs.Place as computed;
 
 fn with_run(t: Thread, waited: bool, since: Ticks) -> Thread
     ensures { λ r. ⌜ r ≡ def.withRun t waited (since .0) ⌝ }
@@ -40,31 +42,55 @@ fn with_run(t: Thread, waited: bool, since: Ticks) -> Thread
     }
 }
 
-fn mark_waited_at(ts: [Thread; 32], t: u32) -> [Thread; 32]
-    ensures { λ r. ⌜ r ≡ def.markWaited ts (ThreadOption.SomeThread t) ⌝ }
+// A place to look at for a thread: its own, or the first if it has none.
+fn place(t: u32) -> usize
+    ensures { λ r. ⌜ r ≡ place t ⌝ }
+    ensures { λ r. ⌜ r < 32 ⌝ }
 {
-    if 32 <= t {
-        return ts;
+    if t < 32 {
+        return t as usize;
     }
-    let i = t as usize;
-    let v = ts[i];
-    let s = v.status;
-    if pick::is_runnable(s) {
-        return ts;
-    }
-    let mut l = ts;
-    l[i] = with_run(v, true, v.running_since);
-    l
+    0
 }
 
-// The current thread has waited if it cannot run.
-pub fn mark_waited(ts: [Thread; 32], c: ThreadOption) -> [Thread; 32]
-    ensures { λ r. ⌜ r ≡ def.markWaited ts c ⌝ }
+pub fn place_of(c: ThreadOption) -> usize
+    ensures { λ r. ⌜ r ≡ placeOf c ⌝ }
+    ensures { λ r. ⌜ r < 32 ⌝ }
 {
     match c {
-        ThreadOption::NoThread => ts,
-        ThreadOption::SomeThread(t) => mark_waited_at(ts, t),
+        ThreadOption::NoThread => 0,
+        ThreadOption::SomeThread(t) => place(t),
     }
+}
+
+// Whether it is a thread that has a place of its own.
+fn is_placed(c: ThreadOption) -> bool
+    ensures { λ r. ⌜ r ≡ placed c ⌝ }
+{
+    match c {
+        ThreadOption::NoThread => false,
+        ThreadOption::SomeThread(t) => t < 32,
+    }
+}
+
+fn marked(t: Thread) -> Thread
+    ensures { λ r. ⌜ r ≡ computed.marked t ⌝ }
+{
+    let s = t.status;
+    if pick::is_runnable(s) {
+        return t;
+    }
+    with_run(t, true, t.running_since)
+}
+
+// The current thread c, whose place has t, has waited if it cannot run.
+pub fn mark_waited(c: ThreadOption, t: Thread) -> Thread
+    ensures { λ r. ⌜ r ≡ pick (placed c) (computed.marked t) t ⌝ }
+{
+    if is_placed(c) {
+        return marked(t);
+    }
+    t
 }
 
 fn begun(t: Thread, tick: u64) -> Thread
@@ -76,26 +102,14 @@ fn begun(t: Thread, tick: u64) -> Thread
     t
 }
 
-fn begin_run_at(ts: [Thread; 32], t: u32, tick: u64) -> [Thread; 32]
-    ensures { λ r. ⌜ r ≡ def.beginRun ts (ThreadOption.SomeThread t) tick ⌝ }
-{
-    if 32 <= t {
-        return ts;
-    }
-    let i = t as usize;
-    let mut l = ts;
-    l[i] = begun(l[i], tick);
-    l
-}
-
 // A thread that has waited begins to run.
-pub fn begin_run(ts: [Thread; 32], c: ThreadOption, tick: u64) -> [Thread; 32]
-    ensures { λ r. ⌜ r ≡ def.beginRun ts c tick ⌝ }
+pub fn begin_run(c: ThreadOption, t: Thread, tick: u64) -> Thread
+    ensures { λ r. ⌜ r ≡ pick (placed c) (def.begun t tick) t ⌝ }
 {
-    match c {
-        ThreadOption::NoThread => ts,
-        ThreadOption::SomeThread(t) => begin_run_at(ts, t, tick),
+    if is_placed(c) {
+        return begun(t, tick);
     }
+    t
 }
 
 // Longer than four frames; a tick before the start counts as none.
@@ -108,22 +122,21 @@ pub fn starves(since: Ticks, tick: u64) -> bool
     17924544 < tick - since.0
 }
 
-fn starving_at(ts: [Thread; 32], t: u32, tick: u64) -> bool
-    ensures { λ r. ⌜ r ≡ def.starving ts (ThreadOption.SomeThread t) tick ⌝ }
+fn starves_placed(t: u32, v: Thread, tick: u64) -> bool
+    ensures { λ r. ⌜ r ≡ computed.starvesAt (ThreadOption.SomeThread t) v tick ⌝ }
 {
-    if 32 <= t {
-        return starves(Ticks(0), tick);
+    if t < 32 {
+        return starves(v.running_since, tick);
     }
-    let v = ts[t as usize];
-    starves(v.running_since, tick)
+    starves(Ticks(0), tick)
 }
 
-pub fn starving(ts: [Thread; 32], c: ThreadOption, tick: u64) -> bool
-    ensures { λ r. ⌜ r ≡ def.starving ts c tick ⌝ }
+pub fn starving(c: ThreadOption, v: Thread, tick: u64) -> bool
+    ensures { λ r. ⌜ r ≡ computed.starvesAt c v tick ⌝ }
 {
     match c {
         ThreadOption::NoThread => false,
-        ThreadOption::SomeThread(t) => starving_at(ts, t, tick),
+        ThreadOption::SomeThread(t) => starves_placed(t, v, tick),
     }
 }
 
@@ -137,45 +150,24 @@ fn leaves(t: Thread) -> Thread
     t
 }
 
-fn leave_core_at(ts: [Thread; 32], t: u32) -> [Thread; 32]
-    ensures { λ r. ⌜ r ≡ def.leaveCore ts (ThreadOption.SomeThread t) ⌝ }
+// A Running thread that leaves the core is Ready; one that stays current does not leave it.
+pub fn leave_core(same: bool, c: ThreadOption, t: Thread) -> Thread
+    ensures { λ r. ⌜ r ≡ pick same t (pick (placed c) (def.leaves t) t) ⌝ }
 {
-    if 32 <= t {
-        return ts;
+    if same {
+        return t;
     }
-    let i = t as usize;
-    let mut l = ts;
-    l[i] = leaves(l[i]);
-    l
+    if is_placed(c) {
+        return leaves(t);
+    }
+    t
 }
 
-// A Running thread that leaves the core is Ready.
-pub fn leave_core(ts: [Thread; 32], c: ThreadOption) -> [Thread; 32]
-    ensures { λ r. ⌜ r ≡ def.leaveCore ts c ⌝ }
+pub fn take_core(n: ThreadOption, t: Thread) -> Thread
+    ensures { λ r. ⌜ r ≡ pick (placed n) (withStatus t ThreadStatus.Running) t ⌝ }
 {
-    match c {
-        ThreadOption::NoThread => ts,
-        ThreadOption::SomeThread(t) => leave_core_at(ts, t),
+    if is_placed(n) {
+        return thread::thread::with_status(t, ThreadStatus::Running);
     }
-}
-
-fn take_core_at(ts: [Thread; 32], t: u32) -> [Thread; 32]
-    ensures { λ r. ⌜ r ≡ def.takeCore ts t ⌝ }
-{
-    if 32 <= t {
-        return ts;
-    }
-    let i = t as usize;
-    let mut l = ts;
-    l[i] = thread::thread::with_status(l[i], ThreadStatus::Running);
-    l
-}
-
-pub fn take_core(ts: [Thread; 32], n: ThreadOption) -> [Thread; 32]
-    ensures { λ r. ⌜ r ≡ takeCoreIf ts n ⌝ }
-{
-    match n {
-        ThreadOption::NoThread => ts,
-        ThreadOption::SomeThread(t) => take_core_at(ts, t),
-    }
+    t
 }

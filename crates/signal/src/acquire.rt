@@ -185,7 +185,7 @@ fn acquire_over(x: KObject) -> bool
 }
 
 // What becomes of the slot of an object that is acquired.
-fn acquired_slot(s: Slot, w: u32) -> Slot
+pub fn acquired_slot(s: Slot, w: u32) -> Slot
     ensures { λ r. ⌜ r ≡ withObject s (def.acquired (s .object) w) ⌝ }
 {
     let x = s.object;
@@ -197,7 +197,7 @@ fn acquired_slot(s: Slot, w: u32) -> Slot
     }
 }
 
-fn over_after(before: bool, s: Slot) -> bool
+pub fn over_after(before: bool, s: Slot) -> bool
     ensures { λ r. ⌜ r ≡ (before or def.acquireOver (s .object)) ⌝ }
 {
     if before {

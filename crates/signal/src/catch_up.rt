@@ -15,7 +15,7 @@ ghost use Rattle.object.specs.Slots.{withSlots};
 ghost use Rattle.pass.specs.Timers as def;
 ghost use Rattle.signal.specs.Marks.{syncList, syncLists, lostMarked};
 
-fn lost_object(x: KObject) -> KObject
+pub fn lost_object(x: KObject) -> KObject
     ensures { λ r. ⌜ r ≡ def.lostObject x ⌝ }
 {
     match x {

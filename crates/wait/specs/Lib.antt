@@ -1,3 +1,5 @@
--- Waits as they are looked at.
+-- Waits as they are looked at, and what a try changes.
 pub mod Looks
 pub mod Lists
+pub mod Change
+pub mod Tries

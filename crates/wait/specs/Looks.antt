@@ -21,7 +21,7 @@ use Rattle.pass.specs.declared.IndexOption.{IndexOption}
 use Rattle.pass.specs.declared.IndexOption.the-variants.{NoIndex, SomeIndex}
 use Rattle.signal.specs.Looks.{threadNamed, signaledFor, signaled-is}
 use Rattle.pass.specs.Signal.{isSignaled}
-use Rattle.pass.specs.Waits.{allSignaled, firstSignaled}
+use Rattle.pass.specs.Waits.{allSignaled, firstSignaled, satisfiedAt}
 
 -- the object o, whose slot is x; a number that no slot has names a dead slot
 abbrev pub objectIn : ℕ → Slot → KObject
@@ -74,8 +74,32 @@ all-is ts s w i (o ∷ os) = go (isSignaled ts (objectAt s o) w) (all-is ts s w 
     go true e = e
     go false e = refl
 
--- an object's signal for a thread, with the look at the slot and at the thread that the object names
+-- a wait for all looks for a place that is not signalled
+abbrev pub indexFor : Bool → IndexOption → IndexOption
+indexFor true first = pick (none first) (SomeIndex 0) NoIndex
+indexFor false first = first
+
+pub index-is : (ts : List th.Thread) (s : ObjectStore) (w : ℕ) (all : Bool) (os : List ℕ) → indexFor all (firstWhere ts (s .slots) w (not all) 0 os) ≡ satisfiedAt ts s w all os
+index-is ts s w true os = ap (λ b. pick b (SomeIndex 0) NoIndex) (all-is ts s w 0 os)
+index-is ts s w false os = first-is ts s w 0 os
+
+-- the place that is found, or what the rest gives
+abbrev pub orIndex : IndexOption → IndexOption → IndexOption
+orIndex NoIndex rest = rest
+orIndex (SomeIndex i) rest = SomeIndex i
+
+-- where the look at a list ends: no place is looked at after one that is found
+abbrev pub endFor : IndexOption → ℕ → ℕ
+endFor NoIndex n = n
+endFor (SomeIndex i) n = 0
+
+-- ---- an object's signal for a thread, with the look at its slot x and at the thread y that it names
+abbrev pub namedIndex : ℕ → Slot → ℕ
+namedIndex o x = pick (ltb (threadNamed (objectIn o x)) 32) (threadNamed (objectIn o x)) 0
+
+abbrev pub looked : ℕ → Slot → th.Thread → ℕ → Bool
+looked o x y w = signaledFor (objectIn o x) (pick (ltb (threadNamed (objectIn o x)) 32) (isDead (y .status)) true) w
+
 pub look-is : (ts : List th.Thread) (l : List Slot) (o w : ℕ) → length ts ≡ 32 → length l ≡ 128
-    → (let x : KObject = objectIn o (getD l (slotIndex o) noSlot) in
-    signaledFor x (pick (ltb (threadNamed x) 32) (isDead (getD ts (pick (ltb (threadNamed x) 32) (threadNamed x) 0) noThread .status)) true) w ≡ isSignaled ts (slotAt l o .object) w)
+    → looked o (getD l (slotIndex o) noSlot) (getD ts (namedIndex o (getD l (slotIndex o) noSlot)) noThread) w ≡ isSignaled ts (slotAt l o .object) w
 look-is ts l o w n m = rw (object-is l o m, gone-is ts (threadNamed (slotAt l o .object)) n) (signaled-is ts (slotAt l o .object) w)

@@ -15,7 +15,7 @@ ghost use Rattle.sound.specs.View.{threadAt};
 ghost use Rattle.pass.specs.Timers.{saturatingAdd};
 ghost use Rattle.pass.specs.Waits as def;
 
-fn saturating_add(a: u64, b: u64) -> u64
+pub fn saturating_add(a: u64, b: u64) -> u64
     ensures { λ r. ⌜ r ≡ saturatingAdd a b ⌝ }
 {
     if 18446744073709551615 - a < b {

@@ -2,23 +2,14 @@
 use crate::satisfy;
 use pass::Fate;
 use pass::IndexOption;
-use types::object::ObjectStore;
 use types::thread::Thread;
 use types::thread::ThreadStatus;
-use types::thread::TickOption;
 ghost use mathlib.Core.Path.{_≡_};
 ghost use Rattle.laws.specs.Logic.{pick};
 ghost use Rattle.pass.specs.Timers.{dueBy};
 ghost use Rattle.pass.specs.Waits as def;
-
-fn given_or_late(found: IndexOption, late: bool) -> Fate
-    ensures { λ r. ⌜ r ≡ def.fateOf found late ⌝ }
-{
-    match found {
-        IndexOption::NoIndex => late_or(late),
-        IndexOption::SomeIndex(i) => Fate::Given(i),
-    }
-}
+ghost use Rattle.wait.specs.Looks.{indexFor};
+ghost use Rattle.wait.specs.Tries.{givenAs, orFate};
 
 fn late_or(late: bool) -> Fate
     ensures { λ r. ⌜ r ≡ pick late Fate.TimedOut Fate.Stays ⌝ }
@@ -38,44 +29,56 @@ fn slept_or(late: bool) -> Fate
     Fate::Stays
 }
 
-fn fate_sync(s: ObjectStore, ts: [Thread; 32], w: u32, t: Thread, late: bool) -> Fate
-    ensures { λ r. ⌜ r ≡ def.fateOf (def.satisfiedAt ts s w (t .«wait_all») (def.waitedObjects t)) late ⌝ }
+fn given_or(found: IndexOption) -> Fate
+    ensures { λ r. ⌜ r ≡ givenAs found ⌝ }
 {
-    let list = t.wait_objects;
-    let found = satisfy::satisfied_at(s, ts, w, t.wait_all, list, t.wait_count);
-    given_or_late(found, late)
+    match found {
+        IndexOption::NoIndex => Fate::Stays,
+        IndexOption::SomeIndex(i) => Fate::Given(i),
+    }
 }
 
-fn fate_as(
-    status: ThreadStatus,
-    s: ObjectStore,
-    ts: [Thread; 32],
-    w: u32,
-    t: Thread,
-    late: bool,
-) -> Fate
-    ensures { λ r. ⌜ r ≡ def.fateAs status (def.satisfiedAt ts s w (t .«wait_all») (def.waitedObjects t)) late ⌝ }
+// The first of two that is not to stay.
+fn or_fate(f: Fate, g: Fate) -> Fate
+    ensures { λ r. ⌜ r ≡ orFate f g ⌝ }
+{
+    match f {
+        Fate::Stays => g,
+        Fate::Given(i) => Fate::Given(i),
+        Fate::TimedOut => Fate::TimedOut,
+        Fate::Slept => Fate::Slept,
+    }
+}
+
+// Satisfaction before time-out.
+fn fate_sync(found: IndexOption, late: bool) -> Fate
+    ensures { λ r. ⌜ r ≡ def.fateOf found late ⌝ }
+{
+    let given = given_or(found);
+    let timed = late_or(late);
+    or_fate(given, timed)
+}
+
+fn fate_as(status: ThreadStatus, found: IndexOption, late: bool) -> Fate
+    ensures { λ r. ⌜ r ≡ def.fateAs status found late ⌝ }
 {
     match status {
         ThreadStatus::Dead => Fate::Stays,
         ThreadStatus::Running => Fate::Stays,
         ThreadStatus::Ready => Fate::Stays,
         ThreadStatus::Sleeping => slept_or(late),
-        ThreadStatus::WaitSync => fate_sync(s, ts, w, t, late),
+        ThreadStatus::WaitSync => fate_sync(found, late),
         ThreadStatus::WaitArbiter => late_or(late),
         ThreadStatus::Dormant => Fate::Stays,
     }
 }
 
-pub fn fate(s: ObjectStore, ts: [Thread; 32], tick: u64, w: u32) -> Fate
-    ensures { λ r. ⌜ r ≡ def.fate ts s tick w ⌝ }
+// Of the thread t, whose list has its first place with the signal that it looks for at `first`.
+pub fn fate_of(t: Thread, first: IndexOption, tick: u64) -> Fate
+    ensures { λ r. ⌜ r ≡ def.fateAs (t .status) (indexFor (t .«wait_all») first) (dueBy (t .«wakeup_at») tick) ⌝ }
 {
-    if 32 <= w {
-        return Fate::Stays;
-    }
-    let t = ts[w as usize];
     let status = t.status;
     let at = t.wakeup_at;
     let late = signal::timer::due_by(at, tick);
-    fate_as(status, s, ts, w, t, late)
+    fate_as(status, satisfy::index_for(t.wait_all, first), late)
 }

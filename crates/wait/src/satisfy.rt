@@ -16,7 +16,7 @@ ghost use Rattle.laws.specs.Logic.{pick};
 ghost use Rattle.types.specs.Thread.{isDead};
 ghost use Rattle.sound.specs.View.{ids};
 ghost use Rattle.pass.specs.Waits.{satisfiedAt};
-ghost use Rattle.wait.specs.Looks.{objectIn, asWanted, firstWhere, none};
+ghost use Rattle.wait.specs.Looks.{objectIn, namedIndex, looked, asWanted, firstWhere, indexFor};
 
 fn object_in(o: u32, x: Slot) -> KObject
     ensures { λ r. ⌜ r ≡ objectIn o x ⌝ }
@@ -61,6 +61,24 @@ fn wanted(want: bool, b: bool) -> bool
     !b
 }
 
+// The place to look at for the thread that the object o, whose slot is x, names.
+pub fn named_index(o: u32, x: Slot) -> usize
+    ensures { λ r. ⌜ r ≡ namedIndex o x ⌝ }
+    ensures { λ r. ⌜ r < 32 ⌝ }
+{
+    let v = object_in(o, x);
+    thread_index(acquire::thread_named(v))
+}
+
+// Whether the signal of the object o for thread w is as wanted; x is the object's slot, y the thread that it names.
+pub fn look(want: bool, o: u32, x: Slot, y: Thread, w: u32) -> bool
+    ensures { λ r. ⌜ r ≡ asWanted want (looked o x y w) ⌝ }
+{
+    let v = object_in(o, x);
+    let gone = is_gone(acquire::thread_named(v), y);
+    wanted(want, acquire::is_signaled(v, gone, w))
+}
+
 // The first of n places whose signal for thread w is as wanted.
 fn first_in(
     slots: [Slot; 128],
@@ -78,10 +96,9 @@ fn first_in(
             return IndexOption::NoIndex;
         }
         let o = l[i];
-        let x = object_in(o.0, slots[places::slot_index(o.0)]);
-        let u = acquire::thread_named(x);
-        let gone = is_gone(u, ts[thread_index(u)]);
-        if wanted(want, acquire::is_signaled(x, gone, w)) {
+        let x = slots[places::slot_index(o.0)];
+        let y = ts[named_index(o.0, x)];
+        if look(want, o.0, x, y, w) {
             return IndexOption::SomeIndex(i as u32);
         }
         i += 1;
@@ -90,12 +107,22 @@ fn first_in(
 }
 
 fn all_index(first: IndexOption) -> IndexOption
-    ensures { λ r. ⌜ r ≡ pick (none first) (IndexOption.SomeIndex 0) IndexOption.NoIndex ⌝ }
+    ensures { λ r. ⌜ r ≡ indexFor true first ⌝ }
 {
     match first {
         IndexOption::NoIndex => IndexOption::SomeIndex(0),
         IndexOption::SomeIndex(_i) => IndexOption::NoIndex,
     }
+}
+
+// A wait for all looks for a place that is not signalled, and gives index 0 if there is none.
+pub fn index_for(all: bool, first: IndexOption) -> IndexOption
+    ensures { λ r. ⌜ r ≡ indexFor all first ⌝ }
+{
+    if all {
+        return all_index(first);
+    }
+    first
 }
 
 // The index that a wait of thread w on the first n of the list gives now.
@@ -110,8 +137,7 @@ pub fn satisfied_at(
     ensures { λ r. ⌜ r ≡ satisfiedAt ts s w all (take n (ids l)) ⌝ }
 {
     let slots = s.slots;
-    if all {
-        return all_index(first_in(slots, ts, l, n, w, false));
-    }
-    first_in(slots, ts, l, n, w, true)
+    let want = !all;
+    let first = first_in(slots, ts, l, n, w, want);
+    index_for(all, first)
 }

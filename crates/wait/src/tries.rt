@@ -1,9 +1,12 @@
 // The tries of a pass (`try_satisfy_wait` for each thread by number).
+use crate::change;
 use crate::fate;
+use crate::satisfy;
 use object::store;
 use pass::Fate;
+use pass::IndexOption;
 use pass::Waits;
-use signal::acquire;
+use thread::places;
 use types::object::ObjectStore;
 use types::thread::Thread;
 use types::thread::ThreadStatus;
@@ -11,17 +14,16 @@ use types::thread::WaitResult;
 use units::ObjectId;
 ghost use mathlib.Core.Path.{_≡_};
 ghost use Prim.Native.Nat.{_+_, _-_, _<_, _≤_};
-ghost use mathlib.Core.List.{[], _∷_};
-ghost use lib.ListN.{length, set, getD};
-ghost use Rattle.types.specs.Thread.{isBlocked};
+ghost use lib.ListN.{length, take};
+ghost use Rattle.laws.specs.Logic.{pick};
 ghost use Rattle.sound.specs.View.{ids};
-ghost use Rattle.thread.specs.Thread.{clearWait, withStatus, withResult};
-ghost use Rattle.pass.specs.Signal.{acquires};
 ghost use Rattle.pass.specs.Waits as def;
+ghost use Rattle.wait.specs.Looks.{endFor};
+ghost use Rattle.wait.specs.Tries.{awakened, after, fromAny, toAny, takenFrom, takenTo, leftTo};
 
 // A Ready thread whose wait is over, with the result r.
 fn woken(t: Thread, r: WaitResult) -> Thread
-    ensures { λ v. ⌜ v ≡ withStatus (withResult (clearWait t) r (t .«wait_syscall»)) ThreadStatus.Ready ⌝ }
+    ensures { λ v. ⌜ v ≡ awakened t r ⌝ }
 {
     let call = t.wait_syscall;
     let c = thread::thread::clear_wait(t);
@@ -29,88 +31,130 @@ fn woken(t: Thread, r: WaitResult) -> Thread
     thread::thread::with_status(d, ThreadStatus::Ready)
 }
 
-fn awake_at(s: ObjectStore, ts: [Thread; 32], i: usize, r: WaitResult) -> Waits
-    requires { ⌜ i < 32 ⌝ }
-    ensures { λ v. ⌜ v ≡ def.awake (record { objects = s; threads = ts }) i r ⌝ }
+fn slept(t: Thread) -> Thread
+    ensures { λ r. ⌜ r ≡ after Fate.Slept t ⌝ }
 {
-    let old = ts[i];
-    let list = old.wait_objects;
-    let objects = store::release_list(s, list, old.wait_count);
-    let mut l = ts;
-    l[i] = woken(old, r);
-    Waits {
-        objects: objects,
-        threads: l,
-    }
+    let r = t.wait_result;
+    woken(t, r)
 }
 
-fn take_any(s: ObjectStore, list: [ObjectId; 8], i: u32, w: u32) -> ObjectStore
-    ensures { λ r. ⌜ r ≡ acquires s (getD (ids list) i 0 ∷ []) w ⌝ }
-{
-    if 8 <= i {
-        return acquire::acquire(s, ObjectId(0), w);
-    }
-    acquire::acquire(s, list[i as usize], w)
-}
-
-fn take(s: ObjectStore, t: Thread, i: u32, w: u32) -> ObjectStore
-    ensures { λ r. ⌜ r ≡ acquires s (def.taken t i) w ⌝ }
-{
-    let list = t.wait_objects;
-    if t.wait_all {
-        return acquire::acquire_list(s, list, t.wait_count, w);
-    }
-    take_any(s, list, i, w)
-}
-
-fn given(s: ObjectStore, ts: [Thread; 32], t: usize, i: u32) -> Waits
-    requires { ⌜ t < 32 ⌝ }
-    ensures { λ r. ⌜ r ≡ def.tryAs (Fate.Given i) (record { objects = s; threads = ts }) t ⌝ }
-{
-    let q = take(s, ts[t], i, t as u32);
-    awake_at(q, ts, t, WaitResult::Signaled(i))
-}
-
-fn slept(s: ObjectStore, ts: [Thread; 32], t: usize) -> Waits
-    requires { ⌜ t < 32 ⌝ }
-    ensures { λ r. ⌜ r ≡ def.tryAs Fate.Slept (record { objects = s; threads = ts }) t ⌝ }
-{
-    let old = ts[t];
-    let r = old.wait_result;
-    awake_at(s, ts, t, r)
-}
-
-fn try_as(f: Fate, s: ObjectStore, ts: [Thread; 32], t: usize) -> Waits
-    requires { ⌜ t < 32 ⌝ }
-    ensures { λ r. ⌜ r ≡ def.tryAs f (record { objects = s; threads = ts }) t ⌝ }
+// The thread after its try.
+fn tried(f: Fate, t: Thread) -> Thread
+    ensures { λ r. ⌜ r ≡ after f t ⌝ }
 {
     match f {
-        Fate::Stays => Waits {
-            objects: s,
-            threads: ts,
-        },
-        Fate::Given(i) => given(s, ts, t, i),
-        Fate::TimedOut => awake_at(s, ts, t, WaitResult::TimedOut),
-        Fate::Slept => slept(s, ts, t),
+        Fate::Stays => t,
+        Fate::Given(i) => woken(t, WaitResult::Signaled(i)),
+        Fate::TimedOut => woken(t, WaitResult::TimedOut),
+        Fate::Slept => slept(t),
     }
 }
 
-fn try_wait(tick: u64, s: ObjectStore, ts: [Thread; 32], t: usize) -> Waits
-    requires { ⌜ t < 32 ⌝ }
-    ensures { λ r. ⌜ r ≡ def.tryWait tick (record { objects = s; threads = ts }) t ⌝ }
+// How many places of the list are waited on.
+fn places_in(l: [ObjectId; 8], n: u32) -> usize
+    ensures { λ r. ⌜ r ≤ 8 ⌝ }
+    ensures { λ r. ⌜ length l ≡ 8 ⌝ }
+    ensures { λ r. ⌜ take r (ids l) ≡ take n (ids l) ⌝ }
 {
-    let f = fate::fate(s, ts, tick, t as u32);
-    try_as(f, s, ts, t)
+    if n < 8 {
+        return n as usize;
+    }
+    8
 }
 
-fn blocked(t: Thread) -> bool
-    ensures { λ r. ⌜ r ≡ isBlocked (t .status) ⌝ }
+fn found_at(hit: bool, i: u32) -> IndexOption
+    ensures { λ r. ⌜ r ≡ pick hit (IndexOption.SomeIndex i) IndexOption.NoIndex ⌝ }
 {
-    let s = t.status;
-    types::thread::is_blocked(s)
+    if hit {
+        return IndexOption::SomeIndex(i);
+    }
+    IndexOption::NoIndex
 }
 
-// Every thread by number; only a blocked one is handed on, so that the state is not copied for the others.
+// Once a place is found no other one is looked at.
+fn end_for(found: IndexOption, end: usize) -> usize
+    ensures { λ r. ⌜ r ≡ endFor found end ⌝ }
+{
+    match found {
+        IndexOption::NoIndex => end,
+        IndexOption::SomeIndex(_i) => 0,
+    }
+}
+
+fn from_any(i: u32) -> usize
+    ensures { λ r. ⌜ r ≡ fromAny i ⌝ }
+{
+    if i < 8 {
+        return i as usize;
+    }
+    0
+}
+
+fn from_given(i: u32, all: bool) -> usize
+    ensures { λ r. ⌜ r ≡ takenFrom (Fate.Given i) all ⌝ }
+{
+    if all {
+        return 0;
+    }
+    from_any(i)
+}
+
+// The first place that is taken: a wait for all takes every object, one for any the one at the index.
+fn taken_from(f: Fate, all: bool) -> usize
+    ensures { λ r. ⌜ r ≡ takenFrom f all ⌝ }
+{
+    match f {
+        Fate::Stays => 0,
+        Fate::Given(i) => from_given(i, all),
+        Fate::TimedOut => 0,
+        Fate::Slept => 0,
+    }
+}
+
+fn to_any(i: u32) -> usize
+    ensures { λ r. ⌜ r ≡ toAny i ⌝ }
+{
+    if i < 8 {
+        return (i + 1) as usize;
+    }
+    0
+}
+
+fn to_given(i: u32, all: bool, n: usize) -> usize
+    ensures { λ r. ⌜ r ≡ takenTo (Fate.Given i) all n ⌝ }
+{
+    if all {
+        return n;
+    }
+    to_any(i)
+}
+
+// The place before which the taking ends.
+fn taken_to(f: Fate, all: bool, n: usize) -> usize
+    ensures { λ r. ⌜ r ≡ takenTo f all n ⌝ }
+{
+    match f {
+        Fate::Stays => 0,
+        Fate::Given(i) => to_given(i, all, n),
+        Fate::TimedOut => 0,
+        Fate::Slept => 0,
+    }
+}
+
+// A wait that is over lets go of the whole list.
+fn left_to(f: Fate, n: usize) -> usize
+    ensures { λ r. ⌜ r ≡ leftTo f n ⌝ }
+{
+    match f {
+        Fate::Stays => 0,
+        Fate::Given(_i) => n,
+        Fate::TimedOut => n,
+        Fate::Slept => n,
+    }
+}
+
+// Every thread by number: look at its list, take what it is given, let go of the list.
+// In place: objects or threads that are handed on would be copied for each thread.
 pub fn try_waits(tick: u64, objects: ObjectStore, threads: [Thread; 32]) -> Waits
     ensures { λ r. ⌜ r ≡ def.tryWaits tick 32 0 (record { objects = objects; threads = threads }) ⌝ }
 {
@@ -118,11 +162,48 @@ pub fn try_waits(tick: u64, objects: ObjectStore, threads: [Thread; 32]) -> Wait
     let mut ts = threads;
     let mut i: usize = 0;
     while i < 32 {
-        if blocked(ts[i]) {
-            let w = try_wait(tick, s, ts, i);
-            s = w.objects;
-            ts = w.threads;
+        let t = ts[i];
+        let list = t.wait_objects;
+        let n = places_in(list, t.wait_count);
+        let want = !t.wait_all;
+        let mut found = IndexOption::NoIndex;
+        let mut end = n;
+        let mut j: usize = 0;
+        while j < end {
+            let o = list[j];
+            let x = s.slots[places::slot_index(o.0)];
+            let y = ts[satisfy::named_index(o.0, x)];
+            let hit = satisfy::look(want, o.0, x, y, i as u32);
+            found = found_at(hit, j as u32);
+            end = end_for(found, end);
+            j += 1;
         }
+        let f = fate::fate_of(t, found, tick);
+        let to = taken_to(f, t.wait_all, n);
+        let mut a = taken_from(f, t.wait_all);
+        while a < to {
+            let o = list[a];
+            let p = places::slot_index(o.0);
+            let x = s.slots[p];
+            s.overflow = change::taken_over(s.overflow, o.0, x);
+            s.slots[p] = change::taken(o.0, x, i as u32);
+            a += 1;
+        }
+        let left = left_to(f, n);
+        let mut b: usize = 0;
+        while b < left {
+            let o = list[b];
+            let p = places::slot_index(o.0);
+            let x = s.slots[p];
+            if change::unlinks(o.0, x) {
+                s = store::release(s, o);
+            } else {
+                s.slots[p] = change::let_go(o.0, x, s.free);
+                s.free = change::free_after(o.0, x, s.free);
+            }
+            b += 1;
+        }
+        ts[i] = tried(f, t);
         i += 1;
     }
     Waits {

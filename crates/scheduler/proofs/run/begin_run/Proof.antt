@@ -1,26 +1,27 @@
 use mathlib.Core.Path.{_≡_, refl, ap, sym, _∙_}
+use Prim.Native.Nat.{_+_, _-_, _≤_, _<_}
+use native.Mathlib.Omega.{arith}
+use Rattle.laws.specs.Logic.{pick, _and_, _or_, and-no, and-yes}
+use borrow.Author.Tests.{lt-ltb, le-ltb, lt-leb, le-leb, eq-eqb, ne-eqb, not-true, not-false}
 use borrow.Author.Needs.{needs}
 use Rattle.scheduler.proofs.run.begin_run.Statement.{statement}
 use Rattle.scheduler.proofs.run.begin_run.Tie as tie
 use Rattle.scheduler.proofs.run.begin_run.Reads as reads
 use Rattle.scheduler.proofs.run.begin_run.Lts as lts
-use Rattle.scheduler.proofs.run.begin_run_at.Reads as begin-run-at-reads
+use Rattle.scheduler.proofs.run.begun.Reads as begun-reads
+use Rattle.scheduler.proofs.run.is_placed.Reads as is-placed-reads
 
-enum-told : tie.Need-enum-told
-enum-told c = search needs
+is-placed-requires : tie.Need-is-placed-requires
+is-placed-requires c κs = search needs
 
-enum-known-c : tie.Need-enum-known-c
-enum-known-c c = search needs
-
-begin-run-at-requires : tie.Need-begin-run-at-requires
-begin-run-at-requires c κs = search needs
+begun-requires : tie.Need-begun-requires
+begun-requires c κs = search needs
 
 returns : tie.Need-returns
-returns c = search needs
+returns c = rw (sym (c .before .before .is-placed .ensures) ∙ c .before .if1 .taken) (c .begun .ensures)
 
 returns-2 : tie.Need-returns-2
-returns-2 c = rw (c .before .before .c .given .1) (c .begin-run-at .ensures)
+returns-2 c = rw (sym (c .before .is-placed .ensures) ∙ c .if1 .left)
 
 pub begin-run-spec : {M : Type 1} → statement M
-begin-run-spec =
-    tie.close (tie.spec enum-told enum-known-c begin-run-at-requires returns returns-2)
+begin-run-spec = tie.close (tie.spec is-placed-requires begun-requires returns returns-2)

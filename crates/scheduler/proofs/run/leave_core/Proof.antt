@@ -1,26 +1,31 @@
 use mathlib.Core.Path.{_≡_, refl, ap, sym, _∙_}
+use Prim.Native.Nat.{_+_, _-_, _≤_, _<_}
+use native.Mathlib.Omega.{arith}
+use Rattle.laws.specs.Logic.{pick, _and_, _or_, and-no, and-yes}
+use borrow.Author.Tests.{lt-ltb, le-ltb, lt-leb, le-leb, eq-eqb, ne-eqb, not-true, not-false}
 use borrow.Author.Needs.{needs}
 use Rattle.scheduler.proofs.run.leave_core.Statement.{statement}
 use Rattle.scheduler.proofs.run.leave_core.Tie as tie
 use Rattle.scheduler.proofs.run.leave_core.Reads as reads
 use Rattle.scheduler.proofs.run.leave_core.Lts as lts
-use Rattle.scheduler.proofs.run.leave_core_at.Reads as leave-core-at-reads
-
-enum-told : tie.Need-enum-told
-enum-told c = search needs
-
-enum-known-c : tie.Need-enum-known-c
-enum-known-c c = search needs
-
-leave-core-at-requires : tie.Need-leave-core-at-requires
-leave-core-at-requires c κs = search needs
+use Rattle.scheduler.proofs.run.is_placed.Reads as is-placed-reads
+use Rattle.scheduler.proofs.run.leaves.Reads as leaves-reads
 
 returns : tie.Need-returns
-returns c = search needs
+returns c = rw (c .if1 .taken)
+
+is-placed-requires : tie.Need-is-placed-requires
+is-placed-requires c κs = search needs
+
+leaves-requires : tie.Need-leaves-requires
+leaves-requires c κs = search needs
 
 returns-2 : tie.Need-returns-2
-returns-2 c = rw (c .before .before .c .given .1) (c .leave-core-at .ensures)
+returns-2 c = rw (c .before .before .before .if1 .left, sym (c .before .before .is-placed .ensures) ∙ c .before .if2 .taken) (c .leaves .ensures)
+
+returns-3 : tie.Need-returns-3
+returns-3 c = rw (c .before .before .if1 .left, sym (c .before .is-placed .ensures) ∙ c .if2 .left)
 
 pub leave-core-spec : {M : Type 1} → statement M
 leave-core-spec =
-    tie.close (tie.spec enum-told enum-known-c leave-core-at-requires returns returns-2)
+    tie.close (tie.spec returns is-placed-requires leaves-requires returns-2 returns-3)

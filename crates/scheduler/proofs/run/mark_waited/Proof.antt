@@ -1,26 +1,27 @@
 use mathlib.Core.Path.{_≡_, refl, ap, sym, _∙_}
+use Prim.Native.Nat.{_+_, _-_, _≤_, _<_}
+use native.Mathlib.Omega.{arith}
+use Rattle.laws.specs.Logic.{pick, _and_, _or_, and-no, and-yes}
+use borrow.Author.Tests.{lt-ltb, le-ltb, lt-leb, le-leb, eq-eqb, ne-eqb, not-true, not-false}
 use borrow.Author.Needs.{needs}
 use Rattle.scheduler.proofs.run.mark_waited.Statement.{statement}
 use Rattle.scheduler.proofs.run.mark_waited.Tie as tie
 use Rattle.scheduler.proofs.run.mark_waited.Reads as reads
 use Rattle.scheduler.proofs.run.mark_waited.Lts as lts
-use Rattle.scheduler.proofs.run.mark_waited_at.Reads as mark-waited-at-reads
+use Rattle.scheduler.proofs.run.is_placed.Reads as is-placed-reads
+use Rattle.scheduler.proofs.run.marked.Reads as marked-reads
 
-enum-told : tie.Need-enum-told
-enum-told c = search needs
+is-placed-requires : tie.Need-is-placed-requires
+is-placed-requires c κs = search needs
 
-enum-known-c : tie.Need-enum-known-c
-enum-known-c c = search needs
-
-mark-waited-at-requires : tie.Need-mark-waited-at-requires
-mark-waited-at-requires c κs = search needs
+marked-requires : tie.Need-marked-requires
+marked-requires c κs = search needs
 
 returns : tie.Need-returns
-returns c = search needs
+returns c = rw (sym (c .before .before .is-placed .ensures) ∙ c .before .if1 .taken) (c .marked .ensures)
 
 returns-2 : tie.Need-returns-2
-returns-2 c = rw (c .before .before .c .given .1) (c .mark-waited-at .ensures)
+returns-2 c = rw (sym (c .before .is-placed .ensures) ∙ c .if1 .left)
 
 pub mark-waited-spec : {M : Type 1} → statement M
-mark-waited-spec =
-    tie.close (tie.spec enum-told enum-known-c mark-waited-at-requires returns returns-2)
+mark-waited-spec = tie.close (tie.spec is-placed-requires marked-requires returns returns-2)

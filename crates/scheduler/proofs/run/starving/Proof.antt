@@ -1,10 +1,14 @@
 use mathlib.Core.Path.{_≡_, refl, ap, sym, _∙_}
+use Prim.Native.Nat.{_+_, _-_, _≤_, _<_}
+use native.Mathlib.Omega.{arith}
+use Rattle.laws.specs.Logic.{pick, _and_, _or_, and-no, and-yes}
+use borrow.Author.Tests.{lt-ltb, le-ltb, lt-leb, le-leb, eq-eqb, ne-eqb, not-true, not-false}
 use borrow.Author.Needs.{needs}
 use Rattle.scheduler.proofs.run.starving.Statement.{statement}
 use Rattle.scheduler.proofs.run.starving.Tie as tie
 use Rattle.scheduler.proofs.run.starving.Reads as reads
 use Rattle.scheduler.proofs.run.starving.Lts as lts
-use Rattle.scheduler.proofs.run.starving_at.Reads as starving-at-reads
+use Rattle.scheduler.proofs.run.starves_placed.Reads as starves-placed-reads
 
 enum-told : tie.Need-enum-told
 enum-told c = search needs
@@ -12,14 +16,15 @@ enum-told c = search needs
 enum-known-c : tie.Need-enum-known-c
 enum-known-c c = search needs
 
-starving-at-requires : tie.Need-starving-at-requires
-starving-at-requires c κs = search needs
+starves-placed-requires : tie.Need-starves-placed-requires
+starves-placed-requires c κs = search needs
 
 returns : tie.Need-returns
-returns c = search needs
+returns c = rw (c .enum-told .given .1)
 
 returns-2 : tie.Need-returns-2
-returns-2 c = rw (c .before .before .c .given .1) (c .starving-at .ensures)
+returns-2 c = rw (c .before .before .c .given .1) (c .starves-placed .ensures)
 
 pub starving-spec : {M : Type 1} → statement M
-starving-spec = tie.close (tie.spec enum-told enum-known-c starving-at-requires returns returns-2)
+starving-spec =
+    tie.close (tie.spec enum-told enum-known-c starves-placed-requires returns returns-2)

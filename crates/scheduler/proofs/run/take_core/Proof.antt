@@ -1,26 +1,27 @@
 use mathlib.Core.Path.{_≡_, refl, ap, sym, _∙_}
+use Prim.Native.Nat.{_+_, _-_, _≤_, _<_}
+use native.Mathlib.Omega.{arith}
+use Rattle.laws.specs.Logic.{pick, _and_, _or_, and-no, and-yes}
+use borrow.Author.Tests.{lt-ltb, le-ltb, lt-leb, le-leb, eq-eqb, ne-eqb, not-true, not-false}
 use borrow.Author.Needs.{needs}
 use Rattle.scheduler.proofs.run.take_core.Statement.{statement}
 use Rattle.scheduler.proofs.run.take_core.Tie as tie
 use Rattle.scheduler.proofs.run.take_core.Reads as reads
 use Rattle.scheduler.proofs.run.take_core.Lts as lts
-use Rattle.scheduler.proofs.run.take_core_at.Reads as take-core-at-reads
+use Rattle.scheduler.proofs.run.is_placed.Reads as is-placed-reads
+use Rattle.thread.proofs.thread.with_status.Reads as with-status-reads
 
-enum-told : tie.Need-enum-told
-enum-told c = search needs
+is-placed-requires : tie.Need-is-placed-requires
+is-placed-requires c κs = search needs
 
-enum-known-n : tie.Need-enum-known-n
-enum-known-n c = search needs
-
-take-core-at-requires : tie.Need-take-core-at-requires
-take-core-at-requires c κs = search needs
+with-status-requires : tie.Need-with-status-requires
+with-status-requires c κs = search needs
 
 returns : tie.Need-returns
-returns c = search needs
+returns c = rw (sym (c .before .before .is-placed .ensures) ∙ c .before .if1 .taken) (c .with-status .ensures)
 
 returns-2 : tie.Need-returns-2
-returns-2 c = rw (c .before .before .n .given .1) (c .take-core-at .ensures)
+returns-2 c = rw (sym (c .before .is-placed .ensures) ∙ c .if1 .left)
 
 pub take-core-spec : {M : Type 1} → statement M
-take-core-spec =
-    tie.close (tie.spec enum-told enum-known-n take-core-at-requires returns returns-2)
+take-core-spec = tie.close (tie.spec is-placed-requires with-status-requires returns returns-2)

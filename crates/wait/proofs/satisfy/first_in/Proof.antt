@@ -3,8 +3,7 @@ use borrow.Author.Needs.{needs}
 use mathlib.Core.Path.{_≡_, refl, ap, sym, _∙_}
 use Prim.Native.Nat.{_+_, _-_, _≤_, _<_}
 use native.Mathlib.Omega.{arith}
-use Rattle.laws.specs.Logic.{pick, _or_, pick-yes, pick-no, or-yes, or-no}
-use borrow.Author.Tests.{lt-ltb, le-ltb, lt-leb, le-leb, eq-eqb, ne-eqb, not-true, not-false}
+use Rattle.laws.specs.Logic.{pick, pick-yes, pick-no}
 use lib.ListN.{length, take, drop, getD}
 use Rattle.sound.specs.View.{ids, slotAt}
 use Rattle.object.proofs.Laws.{list-at, list-end, list-over}
@@ -14,13 +13,9 @@ use Rattle.wait.proofs.satisfy.first_in.Statement.{statement}
 use Rattle.wait.proofs.satisfy.first_in.Tie as tie
 use Rattle.wait.proofs.satisfy.first_in.Reads as reads
 use Rattle.wait.proofs.satisfy.first_in.Lts as lts
-use Rattle.signal.proofs.acquire.is_signaled.Reads as is-signaled-reads
-use Rattle.signal.proofs.acquire.thread_named.Reads as thread-named-reads
 use Rattle.thread.proofs.places.slot_index.Reads as slot-index-reads
-use Rattle.wait.proofs.satisfy.is_gone.Reads as is-gone-reads
-use Rattle.wait.proofs.satisfy.object_in.Reads as object-in-reads
-use Rattle.wait.proofs.satisfy.thread_index.Reads as thread-index-reads
-use Rattle.wait.proofs.satisfy.wanted.Reads as wanted-reads
+use Rattle.wait.proofs.satisfy.look.Reads as look-reads
+use Rattle.wait.proofs.satisfy.named_index.Reads as named-index-reads
 
 abbrev Inv-loop : tie.InvT-loop
 Inv-loop n w want slots ts l i₀ i = (i ≤ 8) × (firstWhere ts slots w want i (drop i (take n (ids l))) ≡ firstWhere ts slots w want 0 (take n (ids l)))
@@ -47,50 +42,34 @@ array-copy-out-o c = search needs
 slot-index-requires : tie.Need-slot-index-requires Inv-loop μ-loop
 slot-index-requires c κs = search needs
 
-mul-object-in : tie.Need-mul-object-in Inv-loop μ-loop
-mul-object-in c = search needs
+mul-x : tie.Need-mul-x Inv-loop μ-loop
+mul-x c = search needs
 
-array-copy-out-object-in : tie.Need-array-copy-out-object-in Inv-loop μ-loop
-array-copy-out-object-in c = search needs
+array-copy-out-x : tie.Need-array-copy-out-x Inv-loop μ-loop
+array-copy-out-x c = search needs
 
-object-in-requires : tie.Need-object-in-requires Inv-loop μ-loop
-object-in-requires c κs = search needs
+named-index-requires : tie.Need-named-index-requires Inv-loop μ-loop
+named-index-requires c κs = search needs
 
-thread-named-requires : tie.Need-thread-named-requires Inv-loop μ-loop
-thread-named-requires c κs = search needs
+mul-y : tie.Need-mul-y Inv-loop μ-loop
+mul-y c = search needs
 
-thread-index-requires : tie.Need-thread-index-requires Inv-loop μ-loop
-thread-index-requires c κs = search needs
+array-copy-out-y : tie.Need-array-copy-out-y Inv-loop μ-loop
+array-copy-out-y c = search needs
 
-mul-is-gone : tie.Need-mul-is-gone Inv-loop μ-loop
-mul-is-gone c = search needs
+look-requires : tie.Need-look-requires Inv-loop μ-loop
+look-requires c κs = search needs
 
-array-copy-out-is-gone : tie.Need-array-copy-out-is-gone Inv-loop μ-loop
-array-copy-out-is-gone c = search needs
-
-is-gone-requires : tie.Need-is-gone-requires Inv-loop μ-loop
-is-gone-requires c κs = search needs
-
-is-signaled-requires : tie.Need-is-signaled-requires Inv-loop μ-loop
-is-signaled-requires c κs = search needs
-
-wanted-requires : tie.Need-wanted-requires Inv-loop μ-loop
-wanted-requires c κs = search needs
-
-cast-t29 : tie.Need-cast-t29 Inv-loop μ-loop
-cast-t29 c = search needs
+cast-t28 : tie.Need-cast-t28 Inv-loop μ-loop
+cast-t28 c = search needs
 
 returns-2 : tie.Need-returns-2 Inv-loop μ-loop
 unfolding firstWhere
 returns-2 c =
     let w = c .before in
-    let g = w .before in
-    let e = g .before in
-    let d = e .before .before in
-    let u = d .before in
-    let x = u .before in
-    let i = x .before .before in
-    let q = i .before .before in
+    let i = w .before .before in
+    let p = i .before .before in
+    let q = p .before .before in
     let l = q .before .before .loop in
     let s = q .before .before .before in
     let a = s .args in
@@ -98,8 +77,8 @@ returns-2 c =
     let ns : length (a .t1) ≡ 128 = omega (arith, s .good) in
     let nl : length (a .t3) ≡ 8 = omega (arith, s .good) in
     let h = list-at (a .t3) (a .n) (l .i) (q .if1 .left) (omega arith) in
-    let v : w .wanted .result ≡ asWanted (a .want) (isSignaled (a .t2) (slotAt (a .t1) (getD (a .t3) (l .i) noId .0) .object) (a .w)) =
-    w .wanted .ensures ∙ ap (asWanted (a .want)) (g .is-signaled .ensures ∙ rw (e .is-gone .ensures, d .thread-index .ensures .0, u .thread-named .ensures, x .object-in .ensures, i .slot-index .ensures .0) (look-is (a .t2) (a .t1) (getD (a .t3) (l .i) noId .0) (a .w) nt ns)) in
+    let v : w .look .result ≡ asWanted (a .want) (isSignaled (a .t2) (slotAt (a .t1) (getD (a .t3) (l .i) noId .0) .object) (a .w)) =
+    w .look .ensures ∙ ap (asWanted (a .want)) (rw (i .named-index .ensures .0, p .slot-index .ensures .0) (look-is (a .t2) (a .t1) (getD (a .t3) (l .i) noId .0) (a .w) nt ns)) in
     sym (pick-yes _ _ _ (sym v ∙ c .if2 .taken)) ∙ rw h at (l .inv .1)
 
 add-i : tie.Need-add-i Inv-loop μ-loop
@@ -112,13 +91,9 @@ loop-again : tie.Need-loop-again Inv-loop μ-loop
 unfolding firstWhere
 loop-again c =
     let w = c .before in
-    let g = w .before in
-    let e = g .before in
-    let d = e .before .before in
-    let u = d .before in
-    let x = u .before in
-    let i = x .before .before in
-    let q = i .before .before in
+    let i = w .before .before in
+    let p = i .before .before in
+    let q = p .before .before in
     let l = q .before .before .loop in
     let s = q .before .before .before in
     let a = s .args in
@@ -126,8 +101,8 @@ loop-again c =
     let ns : length (a .t1) ≡ 128 = omega (arith, s .good) in
     let nl : length (a .t3) ≡ 8 = omega (arith, s .good) in
     let h = list-at (a .t3) (a .n) (l .i) (q .if1 .left) (omega arith) in
-    let v : w .wanted .result ≡ asWanted (a .want) (isSignaled (a .t2) (slotAt (a .t1) (getD (a .t3) (l .i) noId .0) .object) (a .w)) =
-    w .wanted .ensures ∙ ap (asWanted (a .want)) (g .is-signaled .ensures ∙ rw (e .is-gone .ensures, d .thread-index .ensures .0, u .thread-named .ensures, x .object-in .ensures, i .slot-index .ensures .0) (look-is (a .t2) (a .t1) (getD (a .t3) (l .i) noId .0) (a .w) nt ns)) in
+    let v : w .look .result ≡ asWanted (a .want) (isSignaled (a .t2) (slotAt (a .t1) (getD (a .t3) (l .i) noId .0) .object) (a .w)) =
+    w .look .ensures ∙ ap (asWanted (a .want)) (rw (i .named-index .ensures .0, p .slot-index .ensures .0) (look-is (a .t2) (a .t1) (getD (a .t3) (l .i) noId .0) (a .w) nt ns)) in
     (search needs, sym (pick-no _ _ _ (sym v ∙ c .if2 .left)) ∙ rw h at (l .inv .1))
 
 returns-3 : tie.Need-returns-3 Inv-loop μ-loop
@@ -150,17 +125,13 @@ first-in-spec =
     mul-o
     array-copy-out-o
     slot-index-requires
-    mul-object-in
-    array-copy-out-object-in
-    object-in-requires
-    thread-named-requires
-    thread-index-requires
-    mul-is-gone
-    array-copy-out-is-gone
-    is-gone-requires
-    is-signaled-requires
-    wanted-requires
-    cast-t29
+    mul-x
+    array-copy-out-x
+    named-index-requires
+    mul-y
+    array-copy-out-y
+    look-requires
+    cast-t28
     returns-2
     add-i
     loop-less

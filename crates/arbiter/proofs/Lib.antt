@@ -1,0 +1,3 @@
+-- The laws that the proofs of `arbiter` cite.
+pub mod Wakes
+pub mod ByKind

@@ -1,0 +1,188 @@
+-- A signal at an address by the code's cases: one record, one step of the walk, one turn of the loop. Assumes nothing.
+use mathlib.Core.Path.{_≡_, refl, ap, sym, _∙_}
+use mathlib.Core.Bool.{Bool, true, false}
+use mathlib.Core.Logic.{_≢_}
+use mathlib.Core.List.{List, [], _∷_, _++_, append-nil}
+use Prim.Native.Nat.{ℕ, zero, suc, _+_, _-_, _≤_, _<_}
+use native.Mathlib.Numerals.{add-one}
+use native.Mathlib.Omega.{arith}
+use lib.Dec.{eqb}
+use lib.ListN.{length, take, drop, set, getD, drop-of-length-le}
+use lib.Seq.{take-all, set-getD}
+use borrow.Author.Tests.{eq-eqb, ne-eqb}
+use Rattle.laws.specs.Logic.{_and_, _or_}
+use Rattle.laws.specs.Count.{at, put}
+use Rattle.laws.specs.Walk.{walk, walk-nil, walk-out, walk-go}
+use Rattle.types.specs.declared.thread.Thread as th
+use Rattle.types.specs.declared.object.KObject.{KObject}
+use Rattle.types.specs.declared.object.KObject.the-variants.{Free, Thread, Event, Mutex, Semaphore, Timer, AddressArbiter, Process, ResourceLimit}
+use Rattle.types.specs.declared.object.Slot.{Slot}
+use Rattle.types.specs.declared.object.Waiter.{Waiter}
+use Rattle.types.specs.declared.object.ObjectStore.{ObjectStore}
+use Rattle.types.specs.declared.kernel.Kernel.{Kernel}
+use Rattle.types.specs.Object.{headOf}
+use Rattle.sound.specs.View.{threadAt, slotAt, objectAt, noSlot, waiterNexts, waiterAddresses}
+use Rattle.sound.specs.Records.{chainOf}
+use Rattle.object.specs.declared.waiters.Links.{Links}
+use Rattle.object.specs.declared.waiters.Ends.{Ends}
+use Rattle.object.specs.Slots.{slotPut}
+use Rattle.object.specs.Waiters.{waiterAt, link, withHead, relinked}
+use Rattle.object.specs.Cells.{joined, linksOf, threads-joined, put-next, put-freed}
+use Rattle.object.proofs.Laws.{at-waiters, at-thread}
+use Rattle.kernel.specs.NextEvent.{contains}
+use Rattle.thread.specs.Threads.{withThreads}
+use Rattle.svc.specs.Arbiter.{toWake, unlinkWoken, wokenUp, wakeAll, signalAddress, wokenAt}
+use Rattle.arbiter.specs.Marks.{parkedMarks, marked, more, staysIn, marksIn, countIn, marksAfter, unlinkMarked, wakeMarked, tells-start, tells-after, unlink-is, wake-is}
+
+-- ---- one record
+module _ (rs ds : List ℕ) (a value : ℕ) (p : List ℕ) (n x : ℕ) where
+  abbrev pub Decided : Bool → ℕ → List ℕ → Type 0
+  Decided stays m q = (stays ≡ staysIn rs ds a value p n x) × ((m ≡ countIn rs ds a value p n x) × (q ≡ marksIn rs ds a value p n x))
+
+  pub other : at ds x ≢ a → Decided true n p
+  unfolding _and_ _or_
+  other e = let f = ne-eqb (at ds x) a e in (rw f, (rw f, rw f))
+
+  pub left-behind : at ds x ≡ a → marked p (at rs x) ≡ false → Decided false n p
+  unfolding _and_ _or_
+  left-behind e g = let f = eq-eqb (at ds x) a e in (rw (f, g), (rw (f, g), rw (f, g)))
+
+  pub enough : at ds x ≡ a → marked p (at rs x) ≡ true → more value n ≡ false → Decided true n p
+  unfolding _and_ _or_
+  enough e g h = let f = eq-eqb (at ds x) a e in (rw (f, g, h), (rw (f, g, h), rw (f, g, h)))
+
+  pub wakes : at ds x ≡ a → marked p (at rs x) ≡ true → more value n ≡ true → Decided false (n + 1) (set p (at rs x) 2)
+  unfolding _and_ _or_
+  wakes e g h = let f = eq-eqb (at ds x) a e in (rw (f, g, h), (rw (f, g, h), rw (f, g, h)))
+
+-- ---- a record linked, in columns
+pub link-keep : (rs ds ns : List ℕ) (x : ℕ) (u : Ends) (keep : Bool) → keep ≡ true
+    → linksOf rs ds (put ns x (u .head)) (record { free = u .free; head = x }) ≡ link keep x (linksOf rs ds ns u)
+link-keep rs ds ns x u keep e = rw (e, put-next rs ds ns x (u .head))
+
+pub link-free : (rs ds ns : List ℕ) (x : ℕ) (u : Ends) (keep : Bool) → keep ≡ false
+    → linksOf (put rs x 0) (put ds x 0) (put ns x (u .free)) (record { free = x; head = u .head }) ≡ link keep x (linksOf rs ds ns u)
+link-free rs ds ns x u keep e = rw (e, put-freed rs ds ns x (u .free))
+
+-- ---- the walk
+addresses-joined : (rs ds ns : List ℕ) → length rs ≡ length ns → length ds ≡ length ns → waiterAddresses (joined rs ds ns) ≡ ds
+unfolding joined
+addresses-joined [] [] ns e f = refl
+addresses-joined [] (d ∷ ds) ns e f = absurd (omega arith)
+addresses-joined (t ∷ rs) [] ns e f = absurd (omega arith)
+addresses-joined (t ∷ rs) (d ∷ ds) [] e f = absurd (omega arith)
+addresses-joined (t ∷ rs) (d ∷ ds) (n ∷ ns) e f = ap (λ l. d ∷ l) (addresses-joined rs ds ns (omega arith) (omega arith))
+
+module _ (rs ds ns : List ℕ) (a value : ℕ) (p : List ℕ) (n h left free : ℕ) where
+  abbrev ws : List Waiter
+  ws = joined rs ds ns
+
+  -- what the code leaves
+  abbrev pub Unlinked : Links → List ℕ → Type 0
+  Unlinked u q = (u ≡ unlinkMarked (joined rs ds ns) a value p n free (walk ns left h)) × (q ≡ marksAfter (joined rs ds ns) a value p n (walk ns left h))
+
+  pub walked-nil : h ≡ 0 → Unlinked (linksOf rs ds ns (record { free = free; head = 0 })) p
+  unfolding unlinkMarked marksAfter
+  walked-nil e = (rw (walk-nil ns left h e), rw (walk-nil ns left h e))
+
+  pub walked-out : left ≡ 0 → Unlinked (linksOf rs ds ns (record { free = free; head = 0 })) p
+  unfolding unlinkMarked marksAfter
+  walked-out e = (rw (walk-out ns left h e), rw (walk-out ns left h e))
+
+  module _ (e : length rs ≡ length ns) (f : length ds ≡ length ns) (c : left ≢ 0) (d : h ≢ 0) (stays : Bool) (m : ℕ) (q : List ℕ)
+      (b : Decided rs ds a value p n h stays m q) where
+    thread-is : at rs h ≡ waiterAt ws h .thread
+    thread-is = ap (λ l. at l h) (sym (threads-joined rs ds ns e f)) ∙ at-thread ws h
+
+    address-is : at ds h ≡ waiterAt ws h .address
+    address-is = ap (λ l. at l h) (sym (addresses-joined rs ds ns e f)) ∙ at-waiters (λ (w : Waiter). w .address) ws h refl
+
+    pub walked-on : (u v : Links) (o : List ℕ) → u ≡ unlinkMarked (joined rs ds ns) a value q m free (walk ns (left - 1) (at ns h))
+        → o ≡ marksAfter (joined rs ds ns) a value q m (walk ns (left - 1) (at ns h)) → v ≡ link stays h u → Unlinked v o
+    unfolding unlinkMarked marksAfter
+    walked-on u v o i j k = (
+      k
+          ∙ ap (λ (z : Links). link stays h z) i
+          ∙ rw (walk-go ns left h c d, b .0, b .1 .0, b .1 .1, thread-is, address-is),
+      j ∙ rw (walk-go ns left h c d, b .1 .0, b .1 .1, thread-is, address-is),
+    )
+
+-- ---- the threads that wake
+module _ (p : List ℕ) where
+  wake-set : (o : ℕ) (l : List th.Thread) (i : ℕ) → i < length l → eqb (getD p o 0) 2 ≡ true
+      → take (suc i) (set l i (wokenUp (threadAt l i))) ++ wakeMarked p (suc o) (drop (suc i) (set l i (wokenUp (threadAt l i)))) ≡ take i l ++ wakeMarked p o (drop i l)
+  unfolding wakeMarked
+  wake-set o [] i h e = absurd (omega arith)
+  wake-set o (x ∷ l) zero h e = rw e
+  wake-set o (x ∷ l) (suc i) h e = ap (λ z. x ∷ z) (wake-set o l i (omega arith) e)
+
+  wake-skip : (o : ℕ) (l : List th.Thread) (i : ℕ) → i < length l → eqb (getD p o 0) 2 ≡ false
+      → take (suc i) l ++ wakeMarked p (suc o) (drop (suc i) l) ≡ take i l ++ wakeMarked p o (drop i l)
+  unfolding wakeMarked
+  wake-skip o [] i h e = absurd (omega arith)
+  wake-skip o (x ∷ l) zero h e = rw e
+  wake-skip o (x ∷ l) (suc i) h e = ap (λ z. x ∷ z) (wake-skip o l i (omega arith) e)
+
+  -- the first i are done
+  abbrev pub WokenTo : List th.Thread → ℕ → List th.Thread → Type 0
+  WokenTo ts i q = (length q ≡ 32) × (take i q ++ wakeMarked p i (drop i q) ≡ wakeMarked p 0 ts)
+
+  module _ (ts : List th.Thread) (i : ℕ) (q : List th.Thread) (v : WokenTo ts i q) where
+    pub woken-more : i < 32 → getD p i 0 ≡ 2 → take (i + 1) (set q i (wokenUp (threadAt q i))) ++ wakeMarked p (i + 1) (drop (i + 1) (set q i (wokenUp (threadAt q i)))) ≡ wakeMarked p 0 ts
+    woken-more h e = rw (add-one i) (wake-set i q i (omega (arith, v .0)) (eq-eqb _ 2 e)) ∙ v .1
+
+    pub woken-skip : i < 32 → getD p i 0 ≢ 2 → take (i + 1) q ++ wakeMarked p (i + 1) (drop (i + 1) q) ≡ wakeMarked p 0 ts
+    woken-skip h e = rw (add-one i) (wake-skip i q i (omega (arith, v .0)) (ne-eqb _ 2 e)) ∙ v .1
+
+    pub woken-all : 32 ≤ i → q ≡ wakeMarked p 0 ts
+    unfolding wakeMarked
+    woken-all h =
+        let m : length q ≤ i = omega (arith, v .0) in
+        let e : take i q ++ wakeMarked p i (drop i q) ≡ q = rw (drop-of-length-le q m, take-all i q m) (append-nil q) in
+        sym e ∙ v .1
+
+-- ---- `signal_address`
+pub signal-is : (k : Kernel) (o a value : ℕ)
+    → (let s : ObjectStore = k .objects in
+    withThreads k (wakeMarked (marksAfter (s .waiters) a value (parkedMarks (k .threads) a) 0 (chainOf s o)) 0 (k .threads)) (relinked s o (unlinkMarked (s .waiters) a value (parkedMarks (k .threads) a) 0 (s .«free_waiter») (chainOf s o)))
+    ≡ signalAddress k o a value)
+signal-is k o a value =
+    let s : ObjectStore = k .objects in
+    let ts : List th.Thread = k .threads in
+    let v = tells-after ts (s .waiters) a value (parkedMarks ts a) [] 0 (chainOf s o) (tells-start ts a) refl in
+    rw (
+      unlink-is ts (s .waiters) a value (parkedMarks ts a) [] 0 (s .«free_waiter») (chainOf s o) (tells-start ts a) refl,
+      wake-is ts a (marksAfter (s .waiters) a value (parkedMarks ts a) 0 (chainOf s o)) (wokenAt ts s o a value) 0 ts v,
+    )
+
+-- without records it changes nothing
+head-same : (x : KObject) → headOf x ≡ 0 → withHead x 0 ≡ x
+head-same (Free n) e = refl
+head-same (Thread t) e = refl
+head-same (Event v) e = refl
+head-same (Mutex m) e = refl
+head-same (Semaphore s) e = refl
+head-same (Timer t) e = refl
+head-same (AddressArbiter a) e = ap (λ (h : ℕ). AddressArbiter (record { waiters = h })) (sym e)
+head-same Process e = refl
+head-same ResourceLimit e = refl
+
+put-same : (l : List Slot) (o : ℕ) → slotPut l o (slotAt l o) ≡ l
+unfolding slotPut slotAt
+put-same l zero = refl
+put-same l (suc i) = set-getD l i noSlot
+
+wake-none : (i : ℕ) (ts : List th.Thread) → wakeAll [] i ts ≡ ts
+unfolding wakeAll contains
+wake-none i [] = refl
+wake-none i (t ∷ ts) = ap (λ l. t ∷ l) (wake-none (suc i) ts)
+
+pub signal-none : (k : Kernel) (o a value : ℕ) → headOf (objectAt (k .objects) o) ≡ 0 → k ≡ signalAddress k o a value
+unfolding toWake unlinkWoken
+signal-none k o a value e =
+    rw (
+      walk-nil (waiterNexts (k .objects .waiters)) 64 (headOf (objectAt (k .objects) o)) e,
+      wake-none 0 (k .threads),
+      head-same (objectAt (k .objects) o) e,
+      put-same (k .objects .slots) o,
+    )

@@ -1,0 +1,454 @@
+// A signal at an address: threads parked there wake (the signalling kind of `arbitrate_address`).
+// The arbiter's chain is walked by recursion with a falling allowance, so that a damaged chain ends too.
+use object::slots;
+use object::waiters::Ends;
+use object::waiters::Links;
+use types::kernel::Kernel;
+use types::object::KObject;
+use types::object::ObjectStore;
+use types::object::Slot;
+use types::object::Waiter;
+use types::sync::AddressArbiter;
+use types::thread::AddressOption;
+use types::thread::Thread;
+use types::thread::ThreadStatus;
+use types::thread::WaitResult;
+use units::ObjectId;
+ghost use mathlib.Core.Path.{_≡_};
+ghost use Prim.Native.Nat.{_+_, _-_, _<_, _≤_};
+ghost use lib.ListN.{length, set};
+ghost use Rattle.laws.specs.Count as cells;
+ghost use Rattle.laws.specs.Walk.{walk};
+ghost use Rattle.types.specs.Object.{headOf};
+ghost use Rattle.sound.specs.View.{waiterNexts, slotAt};
+ghost use Rattle.sound.specs.Records.{chainOf};
+ghost use Rattle.object.specs.Slots.{withObject};
+ghost use Rattle.object.specs.Waiters.{withHead, link, relinked};
+ghost use Rattle.object.specs.Cells.{joined, linksOf};
+ghost use Rattle.svc.specs.Arbiter as def;
+ghost use Rattle.arbiter.specs.Marks.{parkedMarks, marked, more, staysIn, countIn, marksIn, marksAfter, unlinkMarked, wakeMarked};
+
+// What becomes of a record: whether it stays in the chain, and how many threads are woken after it.
+pub struct Decision {
+    pub stays: bool,
+    pub woken: u32,
+}
+
+fn is_at(o: AddressOption, a: u32) -> bool
+    ensures { λ r. ⌜ r ≡ def.isAt o a ⌝ }
+{
+    match o {
+        AddressOption::NoAddress => false,
+        AddressOption::SomeAddress(b) => b == a,
+    }
+}
+
+fn waits_arbiter(s: ThreadStatus) -> bool
+    ensures { λ r. ⌜ r ≡ def.waitsArbiter s ⌝ }
+{
+    match s {
+        ThreadStatus::Dead => false,
+        ThreadStatus::Running => false,
+        ThreadStatus::Ready => false,
+        ThreadStatus::Sleeping => false,
+        ThreadStatus::WaitSync => false,
+        ThreadStatus::WaitArbiter => true,
+        ThreadStatus::Dormant => false,
+    }
+}
+
+// 1 if the thread is parked at the address, else 0.
+fn parked_mark(t: Thread, a: u32) -> u32
+    ensures { λ r. ⌜ r ≡ cells.one? (def.parkedAt t a) ⌝ }
+{
+    let s = t.status;
+    if !waits_arbiter(s) {
+        return 0;
+    }
+    let o = t.wait_address;
+    if is_at(o, a) {
+        return 1;
+    }
+    0
+}
+
+fn parked_marks(ts: [Thread; 32], a: u32) -> [u32; 32]
+    ensures { λ r. ⌜ r ≡ parkedMarks ts a ⌝ }
+{
+    let mut r = [0u32; 32];
+    let mut i: usize = 0;
+    while i < 32 {
+        r[i] = parked_mark(ts[i], a);
+        i += 1;
+    }
+    r
+}
+
+// What stands in the cell numbered x, from 1; 0 where there is no such cell.
+fn cell(l: &[u32; 64], x: u32) -> u32
+    requires { ⌜ length (now l) ≡ 64 ⌝ }
+    ensures { λ r. ⌜ r ≡ cells.at (now (l .entry)) x ⌝ }
+{
+    if x == 0 {
+        return 0;
+    }
+    if 64 < x {
+        return 0;
+    }
+    let i = (x - 1) as usize;
+    l[i]
+}
+
+fn put_cell(l: &mut [u32; 64], x: u32, v: u32)
+    requires { ⌜ length (now l) ≡ 64 ⌝ }
+    ensures { λ _. ⌜ now (l .exit) ≡ cells.put (now (l .entry)) x v ⌝ }
+{
+    if x == 0 {
+        return;
+    }
+    if 64 < x {
+        return;
+    }
+    let i = (x - 1) as usize;
+    l[i] = v;
+}
+
+// A number past the places has no mark.
+fn is_marked(p: &[u32; 32], t: u32) -> bool
+    requires { ⌜ length (now p) ≡ 32 ⌝ }
+    ensures { λ r. ⌜ r ≡ marked (now (p .entry)) t ⌝ }
+{
+    if 32 <= t {
+        return false;
+    }
+    let i = t as usize;
+    p[i] == 1
+}
+
+fn mark_woken(p: &mut [u32; 32], t: u32)
+    requires { ⌜ length (now p) ≡ 32 ⌝ }
+    ensures { λ _. ⌜ now (p .exit) ≡ set (now (p .entry)) t 2 ⌝ }
+{
+    if 32 <= t {
+        return;
+    }
+    let i = t as usize;
+    p[i] = 2;
+}
+
+// A value below 0 wakes all.
+fn more_to_wake(value: u32, n: u32) -> bool
+    ensures { λ r. ⌜ r ≡ more value n ⌝ }
+{
+    if 2147483648 <= value {
+        return true;
+    }
+    n < value
+}
+
+// The record x stays if it is for another address, or if its thread is parked here and enough are woken; n are so far.
+// A thread that is not parked here left its record behind.
+fn decide(
+    threads: &[u32; 64],
+    addresses: &[u32; 64],
+    parked: &mut [u32; 32],
+    a: u32,
+    value: u32,
+    n: u32,
+    x: u32,
+) -> Decision
+    requires { ⌜ length (now threads) ≡ 64 ⌝ }
+    requires { ⌜ length (now addresses) ≡ 64 ⌝ }
+    requires { ⌜ length (now parked) ≡ 32 ⌝ }
+    requires { ⌜ n < 64 ⌝ }
+    ensures { λ r. ⌜ r .stays ≡ staysIn (now (threads .entry)) (now (addresses .entry)) a value (now (parked .entry)) n x ⌝ }
+    ensures { λ r. ⌜ r .woken ≡ countIn (now (threads .entry)) (now (addresses .entry)) a value (now (parked .entry)) n x ⌝ }
+    ensures { λ _. ⌜ now (parked .exit) ≡ marksIn (now (threads .entry)) (now (addresses .entry)) a value (now (parked .entry)) n x ⌝ }
+    ensures { λ r. ⌜ r .woken ≤ n + 1 ⌝ }
+    ensures { λ _. ⌜ length (now (parked .exit)) ≡ 32 ⌝ }
+{
+    if cell(addresses, x) != a {
+        return Decision {
+            stays: true,
+            woken: n,
+        };
+    }
+    let t = cell(threads, x);
+    if !is_marked(parked, t) {
+        return Decision {
+            stays: false,
+            woken: n,
+        };
+    }
+    if !more_to_wake(value, n) {
+        return Decision {
+            stays: true,
+            woken: n,
+        };
+    }
+    mark_woken(parked, t);
+    Decision {
+        stays: false,
+        woken: n + 1,
+    }
+}
+
+// The record x goes in front of what is kept, or of the free chain.
+fn link_cells(
+    threads: &mut [u32; 64],
+    addresses: &mut [u32; 64],
+    nexts: &mut [u32; 64],
+    keep: bool,
+    x: u32,
+    u: Ends,
+) -> Ends
+    requires { ⌜ length (now threads) ≡ 64 ⌝ }
+    requires { ⌜ length (now addresses) ≡ 64 ⌝ }
+    requires { ⌜ length (now nexts) ≡ 64 ⌝ }
+    ensures { λ r. ⌜ linksOf (now (threads .exit)) (now (addresses .exit)) (now (nexts .exit)) r ≡ link keep x (linksOf (now (threads .entry)) (now (addresses .entry)) (now (nexts .entry)) u) ⌝ }
+    ensures { λ _. ⌜ length (now (threads .exit)) ≡ 64 ⌝ }
+    ensures { λ _. ⌜ length (now (addresses .exit)) ≡ 64 ⌝ }
+    ensures { λ _. ⌜ length (now (nexts .exit)) ≡ 64 ⌝ }
+{
+    if keep {
+        put_cell(nexts, x, u.head);
+        return Ends {
+            free: u.free,
+            head: x,
+        };
+    }
+    put_cell(threads, x, 0);
+    put_cell(addresses, x, 0);
+    put_cell(nexts, x, u.free);
+    Ends {
+        free: x,
+        head: u.head,
+    }
+}
+
+// The chain from at without the records that wake their thread or were left behind, after n woken threads. The records
+// are lent as columns, so that no step of the walk copies the table.
+fn unlink_woken(
+    threads: &mut [u32; 64],
+    addresses: &mut [u32; 64],
+    nexts: &mut [u32; 64],
+    parked: &mut [u32; 32],
+    a: u32,
+    value: u32,
+    n: u32,
+    at: u32,
+    left: u32,
+    free: u32,
+) -> Ends
+    requires { ⌜ length (now threads) ≡ 64 ⌝ }
+    requires { ⌜ length (now addresses) ≡ 64 ⌝ }
+    requires { ⌜ length (now nexts) ≡ 64 ⌝ }
+    requires { ⌜ length (now parked) ≡ 32 ⌝ }
+    requires { ⌜ n + left ≤ 64 ⌝ }
+    ensures { λ r. ⌜ linksOf (now (threads .exit)) (now (addresses .exit)) (now (nexts .exit)) r ≡ unlinkMarked (joined (now (threads .entry)) (now (addresses .entry)) (now (nexts .entry))) a value (now (parked .entry)) n free (walk (now (nexts .entry)) left at) ⌝ }
+    ensures { λ _. ⌜ now (parked .exit) ≡ marksAfter (joined (now (threads .entry)) (now (addresses .entry)) (now (nexts .entry))) a value (now (parked .entry)) n (walk (now (nexts .entry)) left at) ⌝ }
+    ensures { λ _. ⌜ length (now (threads .exit)) ≡ 64 ⌝ }
+    ensures { λ _. ⌜ length (now (addresses .exit)) ≡ 64 ⌝ }
+    ensures { λ _. ⌜ length (now (nexts .exit)) ≡ 64 ⌝ }
+    ensures { λ _. ⌜ length (now (parked .exit)) ≡ 32 ⌝ }
+{
+    if at == 0 {
+        return Ends {
+            free: free,
+            head: 0,
+        };
+    }
+    if left == 0 {
+        return Ends {
+            free: free,
+            head: 0,
+        };
+    }
+    let next = cell(nexts, at);
+    let d = decide(threads, addresses, parked, a, value, n, at);
+    let u = unlink_woken(
+        threads,
+        addresses,
+        nexts,
+        parked,
+        a,
+        value,
+        d.woken,
+        next,
+        left - 1,
+        free,
+    );
+    link_cells(threads, addresses, nexts, d.stays, at, u)
+}
+
+// The records that have these columns.
+fn join(threads: [u32; 64], addresses: [u32; 64], nexts: [u32; 64]) -> [Waiter; 64]
+    ensures { λ r. ⌜ r ≡ joined threads addresses nexts ⌝ }
+{
+    let none = Waiter {
+        thread: 0,
+        address: 0,
+        next: 0,
+    };
+    let mut l = [none; 64];
+    let mut i: usize = 0;
+    while i < 64 {
+        l[i] = Waiter {
+            thread: threads[i],
+            address: addresses[i],
+            next: nexts[i],
+        };
+        i += 1;
+    }
+    l
+}
+
+fn unlink_chain(
+    ws: [Waiter; 64],
+    parked: &mut [u32; 32],
+    a: u32,
+    value: u32,
+    head: u32,
+    free: u32,
+) -> Links
+    requires { ⌜ length (now parked) ≡ 32 ⌝ }
+    ensures { λ r. ⌜ r ≡ unlinkMarked ws a value (now (parked .entry)) 0 free (walk (waiterNexts ws) 64 head) ⌝ }
+    ensures { λ _. ⌜ now (parked .exit) ≡ marksAfter ws a value (now (parked .entry)) 0 (walk (waiterNexts ws) 64 head) ⌝ }
+    ensures { λ _. ⌜ length (now (parked .exit)) ≡ 32 ⌝ }
+{
+    let mut threads = tally::columns::threads_of(ws);
+    let mut addresses = tally::columns::addresses_of(ws);
+    let mut nexts = tally::columns::nexts_of(ws);
+    let u = unlink_woken(
+        &mut threads,
+        &mut addresses,
+        &mut nexts,
+        parked,
+        a,
+        value,
+        0,
+        head,
+        64,
+        free,
+    );
+    let l = join(threads, addresses, nexts);
+    Links {
+        waiters: l,
+        free: u.free,
+        head: u.head,
+    }
+}
+
+// Only an arbiter has a chain.
+fn with_head(o: KObject, h: u32) -> KObject
+    ensures { λ r. ⌜ r ≡ withHead o h ⌝ }
+{
+    match o {
+        KObject::Free(n) => KObject::Free(n),
+        KObject::Thread(t) => KObject::Thread(t),
+        KObject::Event(e) => KObject::Event(e),
+        KObject::Mutex(m) => KObject::Mutex(m),
+        KObject::Semaphore(s) => KObject::Semaphore(s),
+        KObject::Timer(t) => KObject::Timer(t),
+        KObject::AddressArbiter(_a) => KObject::AddressArbiter(AddressArbiter { waiters: h }),
+        KObject::Process => KObject::Process,
+        KObject::ResourceLimit => KObject::ResourceLimit,
+    }
+}
+
+fn headed(s: Slot, h: u32) -> Slot
+    ensures { λ r. ⌜ r ≡ withObject s (withHead (s .object) h) ⌝ }
+{
+    let o = s.object;
+    let x = with_head(o, h);
+    Slot {
+        object: x,
+        refcount: s.refcount,
+        pulsed: s.pulsed,
+    }
+}
+
+// The store afterwards; parked is left with the mark 2 for each thread that wakes.
+fn signal_waiters(
+    s: ObjectStore,
+    o: ObjectId,
+    parked: &mut [u32; 32],
+    a: u32,
+    value: u32,
+) -> ObjectStore
+    requires { ⌜ length (now parked) ≡ 32 ⌝ }
+    ensures { λ r. ⌜ r ≡ relinked s (o .0) (unlinkMarked (s .waiters) a value (now (parked .entry)) 0 (s .«free_waiter») (chainOf s (o .0))) ⌝ }
+    ensures { λ _. ⌜ now (parked .exit) ≡ marksAfter (s .waiters) a value (now (parked .entry)) 0 (chainOf s (o .0)) ⌝ }
+    ensures { λ _. ⌜ length (now (parked .exit)) ≡ 32 ⌝ }
+{
+    let old = slots::slot_at(s, o);
+    let object = old.object;
+    let ws = s.waiters;
+    let u = unlink_chain(
+        ws,
+        parked,
+        a,
+        value,
+        types::object::head_of(object),
+        s.free_waiter,
+    );
+    let l = u.waiters;
+    let mut q = slots::put_slot(s, o, headed(old, u.head));
+    q.waiters = l;
+    q.free_waiter = u.free;
+    q
+}
+
+// Its wait is over, with the index 0.
+fn woken_up(t: Thread) -> Thread
+    ensures { λ r. ⌜ r ≡ def.wokenUp t ⌝ }
+{
+    let call = t.wait_syscall;
+    let c = thread::thread::clear_wait(t);
+    let d = thread::thread::with_result(c, WaitResult::Signaled(0), call);
+    thread::thread::with_status(d, ThreadStatus::Ready)
+}
+
+fn wake_threads(ts: [Thread; 32], p: [u32; 32]) -> [Thread; 32]
+    ensures { λ r. ⌜ r ≡ wakeMarked p 0 ts ⌝ }
+{
+    let mut q = ts;
+    let mut i: usize = 0;
+    while i < 32 {
+        if p[i] == 2 {
+            q[i] = woken_up(q[i]);
+        }
+        i += 1;
+    }
+    q
+}
+
+// The first record of the object; 0 if it has none.
+pub fn first_record(slots: [Slot; 128], o: u32) -> u32
+    ensures { λ r. ⌜ r ≡ headOf (slotAt slots o .object) ⌝ }
+{
+    if o == 0 {
+        return 0;
+    }
+    if 128 < o {
+        return 0;
+    }
+    let x = slots[(o - 1) as usize];
+    let y = x.object;
+    types::object::head_of(y)
+}
+
+// At most as many as the value, in the order of their records; below 0 all.
+pub fn signal_address(k: Kernel, o: ObjectId, a: u32, value: u32) -> Kernel
+    ensures { λ r. ⌜ r ≡ def.signalAddress k (o .0) a value ⌝ }
+{
+    let s = k.objects;
+    let ts = k.threads;
+    let mut parked = parked_marks(ts, a);
+    let objects = signal_waiters(s, o, &mut parked, a, value);
+    let threads = wake_threads(ts, parked);
+    let mut q = k;
+    q.objects = objects;
+    q.threads = threads;
+    q
+}

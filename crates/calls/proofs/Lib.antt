@@ -1,0 +1,2 @@
+-- The laws that the proofs of `calls` cite.
+pub mod Laws

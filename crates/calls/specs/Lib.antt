@@ -1,0 +1,2 @@
+-- The calls as they are computed.
+pub mod Kinds

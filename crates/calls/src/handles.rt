@@ -1,0 +1,39 @@
+// `close_handle` and `duplicate_handle` (svc.rs).
+use crate::call;
+use svc::Registers;
+use svc::Served;
+use types::kernel::Kernel;
+use units::Handle;
+ghost use mathlib.Core.Path.{_≡_};
+ghost use Rattle.svc.specs.Handles as def;
+
+// An unknown handle is done, a pseudo-handle too.
+pub fn close_handle(k: Kernel, r: Registers) -> Served
+    ensures { λ s. ⌜ s ≡ def.closeHandle k r ⌝ }
+{
+    let before = k.handles;
+    let held = k.objects;
+    let b = object::handles::close(before, held, Handle(r.r0));
+    let table = b.table;
+    let objects = b.store;
+    call::done(call::with_handles(k, table, objects))
+}
+
+pub fn duplicate_handle(k: Kernel, r: Registers) -> Served
+    ensures { λ s. ⌜ s ≡ def.duplicateHandle k r ⌝ }
+{
+    let o = call::resolved_object(k, r.r1);
+    let mut q = call::resolved_kernel(k, r.r1);
+    if o.0 == 0 {
+        return call::answers(16, q);
+    }
+    let s = q.objects;
+    let before = q.handles;
+    let h = before.next;
+    let b = object::handles::create(before, s, o);
+    let table = b.table;
+    let objects = b.store;
+    q.handles = table;
+    q.objects = objects;
+    call::gives(q, h.0)
+}

@@ -1,0 +1,25 @@
+use mathlib.Core.Path.{_≡_, refl, ap, sym, _∙_}
+use Prim.Native.Nat.{_+_, _-_, _≤_, _<_}
+use native.Mathlib.Omega.{arith}
+use Rattle.laws.specs.Logic.{pick, _and_, _or_, and-no, and-yes}
+use borrow.Author.Tests.{lt-ltb, le-ltb, lt-leb, le-leb, eq-eqb, ne-eqb, not-true, not-false}
+use borrow.Author.Needs.{needs}
+use Rattle.scheduler.proofs.run.is_placed.Statement.{statement}
+use Rattle.scheduler.proofs.run.is_placed.Tie as tie
+use Rattle.scheduler.proofs.run.is_placed.Reads as reads
+use Rattle.scheduler.proofs.run.is_placed.Lts as lts
+
+enum-told : tie.Need-enum-told
+enum-told c = search needs
+
+enum-known-c : tie.Need-enum-known-c
+enum-known-c c = search needs
+
+returns : tie.Need-returns
+returns c = search needs
+
+returns-2 : tie.Need-returns-2
+returns-2 c = rw (c .before .c .given .1)
+
+pub is-placed-spec : {M : Type 1} → statement M
+is-placed-spec = tie.close (tie.spec enum-told enum-known-c returns returns-2)

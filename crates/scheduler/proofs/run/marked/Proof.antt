@@ -1,0 +1,27 @@
+use mathlib.Core.Path.{_≡_, refl, ap, sym, _∙_}
+use Prim.Native.Nat.{_+_, _-_, _≤_, _<_}
+use native.Mathlib.Omega.{arith}
+use Rattle.laws.specs.Logic.{pick, _and_, _or_, and-no, and-yes}
+use borrow.Author.Tests.{lt-ltb, le-ltb, lt-leb, le-leb, eq-eqb, ne-eqb, not-true, not-false}
+use borrow.Author.Needs.{needs}
+use Rattle.scheduler.proofs.run.marked.Statement.{statement}
+use Rattle.scheduler.proofs.run.marked.Tie as tie
+use Rattle.scheduler.proofs.run.marked.Reads as reads
+use Rattle.scheduler.proofs.run.marked.Lts as lts
+use Rattle.scheduler.proofs.pick.is_runnable.Reads as is-runnable-reads
+use Rattle.scheduler.proofs.run.with_run.Reads as with-run-reads
+
+is-runnable-requires : tie.Need-is-runnable-requires
+is-runnable-requires c κs = search needs
+
+returns : tie.Need-returns
+returns c = rw (sym (c .before .is-runnable .ensures) ∙ c .if1 .taken)
+
+with-run-requires : tie.Need-with-run-requires
+with-run-requires c κs = search needs
+
+returns-2 : tie.Need-returns-2
+returns-2 c = rw (sym (c .before .before .is-runnable .ensures) ∙ c .before .if1 .left) (c .with-run .ensures)
+
+pub marked-spec : {M : Type 1} → statement M
+marked-spec = tie.close (tie.spec is-runnable-requires returns with-run-requires returns-2)

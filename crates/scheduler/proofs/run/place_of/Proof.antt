@@ -1,0 +1,29 @@
+use mathlib.Core.Path.{_≡_, refl, ap, sym, _∙_}
+use Prim.Native.Nat.{_+_, _-_, _≤_, _<_}
+use native.Mathlib.Omega.{arith}
+use Rattle.laws.specs.Logic.{pick, _and_, _or_, and-no, and-yes}
+use borrow.Author.Tests.{lt-ltb, le-ltb, lt-leb, le-leb, eq-eqb, ne-eqb, not-true, not-false}
+use borrow.Author.Needs.{needs}
+use Rattle.scheduler.proofs.run.place_of.Statement.{statement}
+use Rattle.scheduler.proofs.run.place_of.Tie as tie
+use Rattle.scheduler.proofs.run.place_of.Reads as reads
+use Rattle.scheduler.proofs.run.place_of.Lts as lts
+use Rattle.scheduler.proofs.run.place.Reads as place-reads
+
+enum-told : tie.Need-enum-told
+enum-told c = search needs
+
+enum-known-c : tie.Need-enum-known-c
+enum-known-c c = search needs
+
+place-requires : tie.Need-place-requires
+place-requires c κs = search needs
+
+returns : tie.Need-returns
+returns c = search needs
+
+returns-2 : tie.Need-returns-2
+returns-2 c = (rw (c .before .before .c .given .1) (c .place .ensures .0), c .place .ensures .1)
+
+pub place-of-spec : {M : Type 1} → statement M
+place-of-spec = tie.close (tie.spec enum-told enum-known-c place-requires returns returns-2)
