@@ -27,9 +27,18 @@ extern "C" {
 #define KERNEL_SCHEDULE_LEN 4u
 #define KERNEL_SATISFIED_NOW_LEN 40u
 #define KERNEL_QUIET_RELEASE_LEN 12u
+#define KERNEL_COLLECT_LEN 12u
+
+/* The guest window is at most this long, its length a multiple of 4. */
+#define KERNEL_WINDOW_MAX 65536u
 
 /* Accepted. */
 #define KERNEL_DONE 0u
+
+/* Accepted too: a guest call's answer, which r0 gets. */
+#define KERNEL_INVALID_HANDLE 16u     /* a handle that is not open, or names another kind of object */
+#define KERNEL_TIMEOUT 17u            /* a wait of 0 nanoseconds that is not satisfied */
+#define KERNEL_INVALID_ENUM_VALUE 18u /* no such kind of arbitration */
 
 /* Refusals, in the order in which they are looked for. */
 #define KERNEL_LENGTH 1u    /* a length, or the guest window's end, is wrong */
@@ -40,6 +49,29 @@ extern "C" {
 #define KERNEL_ADDRESS 6u   /* a guest word outside the window, or not aligned */
 #define KERNEL_FULL 7u      /* a holding would not fit */
 #define KERNEL_OVERFLOW 8u  /* a number would not fit, or the handles are used up */
+
+/* Guest calls. */
+#define KERNEL_CALL_CREATE_THREAD 0x08u
+#define KERNEL_CALL_EXIT_THREAD 0x09u
+#define KERNEL_CALL_SLEEP_THREAD 0x0Au
+#define KERNEL_CALL_SET_THREAD_PRIORITY 0x0Cu
+#define KERNEL_CALL_CREATE_MUTEX 0x13u
+#define KERNEL_CALL_RELEASE_MUTEX 0x14u
+#define KERNEL_CALL_CREATE_SEMAPHORE 0x15u
+#define KERNEL_CALL_RELEASE_SEMAPHORE 0x16u
+#define KERNEL_CALL_CREATE_EVENT 0x17u
+#define KERNEL_CALL_SIGNAL_EVENT 0x18u
+#define KERNEL_CALL_CLEAR_EVENT 0x19u
+#define KERNEL_CALL_CREATE_TIMER 0x1Au
+#define KERNEL_CALL_SET_TIMER 0x1Bu
+#define KERNEL_CALL_CANCEL_TIMER 0x1Cu
+#define KERNEL_CALL_CLEAR_TIMER 0x1Du
+#define KERNEL_CALL_CREATE_ADDRESS_ARBITER 0x21u
+#define KERNEL_CALL_ARBITRATE_ADDRESS 0x22u
+#define KERNEL_CALL_CLOSE_HANDLE 0x23u
+#define KERNEL_CALL_WAIT_SYNCHRONIZATION1 0x24u
+#define KERNEL_CALL_WAIT_SYNCHRONIZATION_N 0x25u
+#define KERNEL_CALL_DUPLICATE_HANDLE 0x27u
 
 /* Makes the block a fresh one that keeps status_word as the default status word, and zeroes the bank. */
 uint32_t kernel_fresh_start(uint8_t *block, size_t block_len, uint8_t *bank, size_t bank_len, uint32_t status_word);
@@ -77,6 +109,20 @@ uint32_t kernel_quiet_release(const uint8_t *block, size_t block_len, uint8_t *a
 /* Ends a thread: its wait ends, its mutexes are given back, and it is not current any more. KERNEL_NO_THREAD if
    there is no such thread or it is Dead. */
 uint32_t kernel_end_thread(uint8_t *block, size_t block_len, uint32_t thread);
+
+/* Makes a guest call of the current thread. The processor's first registers are its arguments; it gets r0 and r1, as far
+   as the call may write them, and a thread that the call makes gets its row of the bank. The window is guest memory from
+   window_base: KERNEL_CALL_WAIT_SYNCHRONIZATION_N reads its handles there, KERNEL_CALL_ARBITRATE_ADDRESS its word,
+   which it may write. The number returned is the call's answer. KERNEL_UNKNOWN if there is no such call, KERNEL_NO_THREAD
+   if no thread runs. */
+uint32_t kernel_dispatch(uint8_t *block, size_t block_len, uint8_t *bank, size_t bank_len, uint8_t *processor,
+                         size_t processor_len, uint8_t *window, size_t window_len, uint32_t window_base, uint32_t number,
+                         uint64_t tick);
+
+/* Hands out and clears what the current thread's wait gave: word 0 for none, 1 signaled, 2 timed out; the index; and the
+   kind of call that waited: 0 none, 1 WaitSynchronization1, 2 WaitSynchronizationN, 3 ArbitrateAddress, 4 SleepThread.
+   KERNEL_NO_THREAD if no thread runs. */
+uint32_t kernel_collect(uint8_t *block, size_t block_len, uint8_t *answer, size_t answer_len);
 
 #ifdef __cplusplus
 }

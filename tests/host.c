@@ -15,5 +15,7 @@ int main(void)
     test_end_thread();
     test_schedule();
     test_asks();
+    test_dispatch();
+    test_collect();
     return report();
 }

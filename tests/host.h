@@ -8,5 +8,7 @@ void test_create_thread(void);
 void test_end_thread(void);
 void test_schedule(void);
 void test_asks(void);
+void test_dispatch(void);
+void test_collect(void);
 
 #endif

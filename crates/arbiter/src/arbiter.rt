@@ -1,7 +1,7 @@
 // `arbitrate_address`.
 use crate::park;
-use blocking::waits;
 use crate::wake;
+use blocking::waits;
 use object::handles;
 use object::kept;
 use svc::Registers;

@@ -1,4 +1,6 @@
 -- Lists of operations.
 pub mod Step
 pub mod Keeps
+pub mod Guests
+pub mod Events
 pub mod Demand

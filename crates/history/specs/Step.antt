@@ -3,6 +3,7 @@ use mathlib.Core.List.{List, [], _∷_}
 use Prim.Native.Nat.{ℕ, _<_}
 use Rattle.codec.proofs.Back.{Bytes}
 use Rattle.lent.specs.Lent.{lent, Back}
+use Rattle.lent.specs.Guest.{dispatch, collect}
 use Rattle.lent.specs.Operations.{freshStart, createThread, schedule, nextEvent, satisfiedNow, quietRelease, endThread}
 
 -- an operation with everything lent besides the block and every number: what C can pass, so slices are of bytes and numbers fit
@@ -15,6 +16,9 @@ pub data Op : Type 0 where
   opSatisfiedNow : (handles : List ℕ) → Bytes handles → (answer : List ℕ) → Bytes answer → (all : ℕ) → all < 4294967296 → (tick : ℕ) → tick < 18446744073709551616 → Op
   opQuietRelease : (answer : List ℕ) → Bytes answer → (handle : ℕ) → handle < 4294967296 → (tick : ℕ) → tick < 18446744073709551616 → Op
   opEndThread : (thread : ℕ) → thread < 4294967296 → Op
+  opDispatch : (bank : List ℕ) → Bytes bank → (processor : List ℕ) → Bytes processor → (window : List ℕ) → Bytes window
+      → (base : ℕ) → base < 4294967296 → (number : ℕ) → number < 4294967296 → (tick : ℕ) → tick < 18446744073709551616 → Op
+  opCollect : (answer : List ℕ) → Bytes answer → Op
 
 unfoldable pub step : Op → List ℕ → Back
 step (opFreshStart bank u word h) b = freshStart word (lent b bank [] [] [])
@@ -24,6 +28,8 @@ step (opSchedule bank u processor p answer v tick h) b = schedule tick (lent b b
 step (opSatisfiedNow handles w answer u all h tick t) b = satisfiedNow handles all tick (lent b [] [] [] answer)
 step (opQuietRelease answer u handle h tick t) b = quietRelease handle tick (lent b [] [] [] answer)
 step (opEndThread thread h) b = endThread thread (lent b [] [] [] [])
+step (opDispatch bank u processor p window w base x number n tick t) b = dispatch base number tick (lent b bank processor window [])
+step (opCollect answer u) b = collect (lent b [] [] [] answer)
 
 pub record Entry : Type 0 where
   pub before : List ℕ

@@ -4,6 +4,7 @@ ghost use mathlib.Core.Path.{_≡_};
 ghost use mathlib.Core.List.{[]};
 ghost use Rattle.lent.specs.Lent.{lent, back};
 ghost use Rattle.lent.specs.Operations as def;
+ghost use Rattle.lent.specs.Guest as guest;
 
 // A fresh block for threads that start with this status word, and a bank of zeros.
 #[no_mangle]
@@ -94,4 +95,28 @@ pub extern "C" fn kernel_end_thread(block: &mut [u8], id: u32) -> u32
     ensures { λ r. ⌜ back r (lent (now (block .exit)) [] [] [] []) ≡ def.endThread id (lent (now (block .entry)) [] [] [] []) ⌝ }
 {
     making::end_thread::operate(block, id)
+}
+
+// A guest call of the current thread; the number is the call's answer, 0, 16, 17 or 18.
+#[no_mangle]
+pub extern "C" fn kernel_dispatch(
+    block: &mut [u8],
+    bank: &mut [u8],
+    processor: &mut [u8],
+    window: &mut [u8],
+    window_base: u32,
+    number: u32,
+    tick: u64,
+) -> u32
+    ensures { λ r. ⌜ back r (lent (now (block .exit)) (now (bank .exit)) (now (processor .exit)) (now (window .exit)) []) ≡ guest.dispatch «window_base» number tick (lent (now (block .entry)) (now (bank .entry)) (now (processor .entry)) (now (window .entry)) []) ⌝ }
+{
+    serving::guest_call::operate(block, bank, processor, window, window_base, number, tick)
+}
+
+// The current thread's recorded result of a wait, handed out once.
+#[no_mangle]
+pub extern "C" fn kernel_collect(block: &mut [u8], answer: &mut [u8]) -> u32
+    ensures { λ r. ⌜ back r (lent (now (block .exit)) [] [] [] (now (answer .exit))) ≡ guest.collect (lent (now (block .entry)) [] [] [] (now (answer .entry))) ⌝ }
+{
+    serving::collect::operate(block, answer)
 }

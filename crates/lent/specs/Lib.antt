@@ -2,3 +2,4 @@
 pub mod Lent
 pub mod Operations
 pub mod Guest
+pub mod Rule

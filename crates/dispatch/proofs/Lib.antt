@@ -1,0 +1,2 @@
+-- The laws that the proofs of the dispatcher cite.
+pub mod Rows

@@ -1,0 +1,228 @@
+// A guest call, over what is lent.
+use lent::questions;
+use svc::Registers;
+use svc::Served;
+use svc::WordOption;
+use types::kernel::Kernel;
+ghost use mathlib.Core.Path.{_≡_};
+ghost use mathlib.Core.Bool.{true, false};
+ghost use mathlib.Core.List.{[]};
+ghost use Prim.Native.Nat.{_+_, _-_, _*_, _<_, _≤_};
+ghost use lib.Dec.{eqb};
+ghost use lib.ListN.{length, take};
+ghost use Rattle.laws.specs.Logic.{pick};
+ghost use Rattle.codec.specs.Bytes.{num, bytes, le, over};
+ghost use Rattle.codec.specs.Layout.{decAll};
+ghost use Rattle.block.specs.Block.{encBlock};
+ghost use Rattle.thread.specs.Threads.{endedThread};
+ghost use Rattle.svc.specs.Table.{rowOf, written};
+ghost use Rattle.svc.specs.Dispatch.{wordsRead, tooMany?, outside?, call};
+ghost use Rattle.dispatch.specs.Word.{wordFits};
+ghost use Rattle.lent.specs.Lent.{lent, back};
+ghost use Rattle.lent.specs.Guest as def;
+
+// Question 1 of the window.
+fn window_ok(base: u32, window: &[u8]) -> bool
+    ensures { λ r. ⌜ r ≡ def.windowOk base (now (window .entry)) ⌝ }
+{
+    let n = window.len() as u64;
+    if 65536 < n {
+        return false;
+    }
+    if n % 4 != 0 {
+        return false;
+    }
+    base as u64 + n <= 4294967296
+}
+
+fn registers_at(processor: &[u8]) -> Registers
+    requires { ⌜ length (now processor) ≡ 208 ⌝ }
+    ensures { λ r. ⌜ r ≡ def.registers (now (processor .entry)) ⌝ }
+{
+    let r0 = codec::get32(processor, 0);
+    let r1 = codec::get32(processor, 4);
+    let r2 = codec::get32(processor, 8);
+    let r3 = codec::get32(processor, 12);
+    let r4 = codec::get32(processor, 16);
+    let r5 = codec::get32(processor, 20);
+    Registers {
+        r0: r0,
+        r1: r1,
+        r2: r2,
+        r3: r3,
+        r4: r4,
+        r5: r5,
+    }
+}
+
+// The registers that the call may read; the others are 0.
+fn registers_for(number: u32, processor: &[u8]) -> Registers
+    requires { ⌜ length (now processor) ≡ 208 ⌝ }
+    ensures { λ r. ⌜ r ≡ Rattle.svc.specs.Dispatch.given number (def.registers (now (processor .entry))) ⌝ }
+{
+    let row = dispatch::table::row_of(number);
+    let r = registers_at(processor);
+    dispatch::registers::read_by(row.reads, r)
+}
+
+fn words_at(window: &[u8], at: usize, n: usize) -> [u32; 8]
+    requires { ⌜ n ≤ 8 ⌝ }
+    requires { ⌜ at + n * 4 ≤ length (now window) ⌝ }
+    ensures { λ l. ⌜ take n l ≡ decAll num 4 n (now (window .entry)) at ⌝ }
+{
+    let mut l = [0u32; 8];
+    let mut i: usize = 0;
+    while i < n {
+        l[i] = codec::get32(window, at + i * 4);
+        i += 1;
+    }
+    l
+}
+
+// The n words that the call reads, which questions 5 and 6 have found in the window.
+fn words_in(window: &[u8], base: u32, number: u32, r: Registers, n: u32) -> [u32; 8]
+    requires { ⌜ n ≡ wordsRead number r ⌝ }
+    requires { ⌜ tooMany? number r ≡ false ⌝ }
+    requires { ⌜ outside? base (length (now window)) number r ≡ false ⌝ }
+    ensures { λ l. ⌜ take n l ≡ def.wordsIn base (now (window .entry)) number r ⌝ }
+{
+    if n == 0 {
+        return [0u32; 8];
+    }
+    let from = r.r1 - base;
+    words_at(window, from as usize, n as usize)
+}
+
+// The call, on the words that it reads.
+fn serve(window: &[u8], base: u32, number: u32, k: Kernel, r: Registers, tick: u64) -> Served
+    requires { ⌜ tooMany? number r ≡ false ⌝ }
+    requires { ⌜ outside? base (length (now window)) number r ≡ false ⌝ }
+    ensures { λ s. ⌜ s ≡ call number k r (def.wordsIn base (now (window .entry)) number r) tick ⌝ }
+{
+    let n = dispatch::questions::words_read(number, r);
+    let words = words_in(window, base, number, r, n);
+    dispatch::call::call(number, k, r, words, n, tick)
+}
+
+// A thread that 0x08 makes gets its row of the bank.
+fn put_bank(bank: &mut [u8], number: u32, k: Kernel, r: Registers)
+    requires { ⌜ length (now bank) ≡ 6656 ⌝ }
+    requires { ⌜ pick (eqb number 8) (endedThread k) 0 < 32 ⌝ }
+    ensures { λ _. ⌜ now (bank .exit) ≡ def.bankAfter number (now (bank .entry)) k r ⌝ }
+{
+    if number != 0x08 {
+        return;
+    }
+    let id = thread::places::ended_thread(k);
+    let tls = thread::places::tls_slot(k);
+    let context = thread::thread::new_context(k.status_word, r.r1, r.r3, r.r2, tls);
+    block::context::put_row(bank, id, context);
+}
+
+// r0 and r1, as far as the call may write them.
+fn put_registers(processor: &mut [u8], number: u32, r0: WordOption, r1: WordOption)
+    requires { ⌜ length (now processor) ≡ 208 ⌝ }
+    ensures { λ _. ⌜ now (processor .exit) ≡ over (over (now (processor .entry)) 0 (bytes 4 (written (rowOf number .writes) 1 r0 (le 4 (now (processor .entry)) 0)))) 4 (bytes 4 (written (rowOf number .writes) 2 r1 (le 4 (now (processor .entry)) 4))) ⌝ }
+{
+    let row = dispatch::table::row_of(number);
+    let old0 = codec::get32(processor, 0);
+    let old1 = codec::get32(processor, 4);
+    let new0 = dispatch::registers::written(row.writes, 1, r0, old0);
+    let new1 = dispatch::registers::written(row.writes, 2, r1, old1);
+    codec::put32(processor, 0, new0);
+    codec::put32(processor, 4, new1);
+}
+
+fn put_word_at(window: &mut [u8], base: u32, a: u32, v: u32)
+    requires { ⌜ wordFits base (length (now window)) a (WordOption.SomeWord v) ≡ true ⌝ }
+    ensures { λ _. ⌜ now (window .exit) ≡ over (now (window .entry)) (a - base) (bytes 4 v) ⌝ }
+{
+    let from = a - base;
+    codec::put32(window, from as usize, v);
+}
+
+// The word that 0x22 counts down.
+fn put_word(window: &mut [u8], base: u32, r: Registers, w: WordOption)
+    requires { ⌜ wordFits base (length (now window)) (r .r1) w ≡ true ⌝ }
+    ensures { λ _. ⌜ now (window .exit) ≡ def.windowAfter base (now (window .entry)) r w ⌝ }
+{
+    match w {
+        WordOption::NoWord => {}
+        WordOption::SomeWord(v) => put_word_at(window, base, r.r1, v),
+    }
+}
+
+// Everything lent, from the state before the call and what it left.
+fn put_served(
+    block: &mut [u8],
+    bank: &mut [u8],
+    processor: &mut [u8],
+    window: &mut [u8],
+    base: u32,
+    number: u32,
+    k: Kernel,
+    r: Registers,
+    s: Served,
+)
+    requires { ⌜ length (now block) ≡ 16384 ⌝ }
+    requires { ⌜ length (now bank) ≡ 6656 ⌝ }
+    requires { ⌜ length (now processor) ≡ 208 ⌝ }
+    requires { ⌜ pick (eqb number 8) (endedThread k) 0 < 32 ⌝ }
+    requires { ⌜ wordFits base (length (now window)) (r .r1) (s .word) ≡ true ⌝ }
+    ensures { λ _. ⌜ now (block .exit) ≡ encBlock (s .kernel) ⌝ }
+    ensures { λ _. ⌜ now (bank .exit) ≡ def.bankAfter number (now (bank .entry)) k r ⌝ }
+    ensures { λ _. ⌜ now (processor .exit) ≡ def.processorAfter number (now (processor .entry)) s ⌝ }
+    ensures { λ _. ⌜ now (window .exit) ≡ def.windowAfter base (now (window .entry)) r (s .word) ⌝ }
+{
+    let after = s.kernel;
+    let r0 = s.r0;
+    let r1 = s.r1;
+    let word = s.word;
+    block::encode(block, after);
+    put_bank(bank, number, k, r);
+    put_registers(processor, number, r0, r1);
+    put_word(window, base, r, word);
+}
+
+// The answer is the call's: 0, 16, 17 or 18.
+pub fn operate(
+    block: &mut [u8],
+    bank: &mut [u8],
+    processor: &mut [u8],
+    window: &mut [u8],
+    window_base: u32,
+    number: u32,
+    tick: u64,
+) -> u32
+    ensures { λ r. ⌜ back r (lent (now (block .exit)) (now (bank .exit)) (now (processor .exit)) (now (window .exit)) []) ≡ def.dispatch «window_base» number tick (lent (now (block .entry)) (now (bank .entry)) (now (processor .entry)) (now (window .entry)) []) ⌝ }
+{
+    if block.len() != 16384 {
+        return 1;
+    }
+    if bank.len() != 6656 {
+        return 1;
+    }
+    if processor.len() != 208 {
+        return 1;
+    }
+    if !window_ok(window_base, window) {
+        return 1;
+    }
+    let k = block::decode(block);
+    if !questions::block_ok(block, k) {
+        return 2;
+    }
+    let r = registers_for(number, processor);
+    let refused = dispatch::questions::refusal(window_base, window.len() as u64, number, r, k);
+    if refused != 0 {
+        return refused;
+    }
+    let s = serve(window, window_base, number, k, r, tick);
+    let after = s.kernel;
+    let found = questions::first_finding(after);
+    if found != 0 {
+        return found;
+    }
+    put_served(block, bank, processor, window, window_base, number, k, r, s);
+    s.answer
+}

@@ -1,0 +1,3 @@
+// Operations for guest code: a guest call, collect.
+pub mod collect;
+pub mod guest_call;
