@@ -20,7 +20,7 @@ KERNEL_LIB = $(PROVED)
 C = target/c
 DRIVER = oracle/target/debug/driver
 BUILD = KERNEL_LIB=$(abspath $(KERNEL_LIB)) cargo build --offline --manifest-path oracle/Cargo.toml --target-dir oracle/target
-HOST = host check lent fresh_block made_block fresh_start next_event create_thread end_thread schedule asks dispatch collect
+HOST = host check lent fresh_block made_block fresh_start next_event create_thread end_thread schedule asks dispatch collect cases
 FLIPS = flips rules fresh_block
 
 all: host-test

@@ -68,6 +68,30 @@ static int make_room(void)
     return 1;
 }
 
+static uint8_t window[32];
+
+/* Closes a handle that is not open: what every guest call takes, and little more. */
+static uint32_t dispatch(void)
+{
+    put32(processor, 0, 0);
+    return kernel_dispatch(block, sizeof block, bank, sizeof bank, processor, sizeof processor, window, sizeof window, 0x100000, KERNEL_CALL_CLOSE_HANDLE, 0);
+}
+
+static uint32_t collect(void) { return kernel_collect(block, sizeof block, answer, KERNEL_COLLECT_LEN); }
+
+/* A thread runs. */
+static int make_current(void)
+{
+    uint32_t current = thread_at(get32(original, CURRENT_THREAD));
+    if (get32(original, HAS_CURRENT) && get32(original, current + STATUS) == RUNNING)
+        return 1;
+    if (!make_room())
+        return 0;
+    memcpy(original, block, sizeof block);
+    return kernel_schedule(original, sizeof original, bank, sizeof bank, processor, sizeof processor, answer, KERNEL_SCHEDULE_LEN, 0) == KERNEL_DONE
+        && get32(original, HAS_CURRENT);
+}
+
 /* `changes`: the block has to be put back before each call. `ready`: makes the block one that the call accepts. */
 static const struct export { const char *name; uint32_t (*call)(void); int changes; int (*ready)(void); } exports[] = {
     {"kernel_fresh_start", fresh_start, 1, NULL},
@@ -77,6 +101,8 @@ static const struct export { const char *name; uint32_t (*call)(void); int chang
     {"kernel_quiet_release", quiet_release, 0, NULL},
     {"kernel_end_thread", end_thread, 1, find_live},
     {"kernel_create_thread", create_thread, 1, make_room},
+    {"kernel_dispatch", dispatch, 1, make_current},
+    {"kernel_collect", collect, 1, make_current},
 };
 
 /* Seen by the compiler as a reader and writer of all memory, so that no copy is left out. */

@@ -17,5 +17,6 @@ int main(void)
     test_asks();
     test_dispatch();
     test_collect();
+    test_cases();
     return report();
 }

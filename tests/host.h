@@ -1,4 +1,4 @@
-/* One function for each export of the library; the two asks share one. */
+/* One function for each export of the library, the two asks sharing one, and one for worked cases. */
 #ifndef HOST_H
 #define HOST_H
 
@@ -10,5 +10,6 @@ void test_schedule(void);
 void test_asks(void);
 void test_dispatch(void);
 void test_collect(void);
+void test_cases(void);
 
 #endif

@@ -69,6 +69,6 @@ pub fn arbitrate_address(k: Kernel, r: Registers, word: u32, tick: u64) -> Serve
             word: WordOption::NoWord,
         };
     }
-    let time = park::park_time(3 <= kind, waits::pair_of(r.r4, r.r5));
+    let time = park::park_time(3 <= kind, calls::call::pair(r.r4, r.r5));
     park::wait_below(kind % 2 == 0, time, q, o, r.r1, r.r3, word, tick)
 }

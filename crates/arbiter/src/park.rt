@@ -37,7 +37,7 @@ pub fn park_time(timed: bool, nanos: u64) -> TickOption
     if !timed {
         return TickOption::NoTick;
     }
-    if blocking::waits::is_negative(nanos) {
+    if calls::call::negative(nanos) {
         return TickOption::NoTick;
     }
     TickOption::SomeTick(units::nanos_to_ticks(Nanos(nanos)))
@@ -66,24 +66,6 @@ fn over_below(before: bool, decrements: bool, word: u32) -> bool
         return false;
     }
     word == 2147483648
-}
-
-fn saturating_add(a: u64, b: u64) -> u64
-    ensures { λ r. ⌜ r ≡ saturatingAdd a b ⌝ }
-{
-    if 18446744073709551615 - a < b {
-        return 18446744073709551615;
-    }
-    a + b
-}
-
-fn wake_tick(time: TickOption, tick: u64) -> TickOption
-    ensures { λ r. ⌜ r ≡ wakeTick time tick ⌝ }
-{
-    match time {
-        TickOption::NoTick => TickOption::NoTick,
-        TickOption::SomeTick(d) => TickOption::SomeTick(Ticks(saturating_add(tick, d.0))),
-    }
 }
 
 // An older wait's result stays.
@@ -132,7 +114,7 @@ fn park_at(c: u32, k: Kernel, o: ObjectId, a: u32, time: TickOption, tick: u64) 
 {
     let s = k.objects;
     let ts = k.threads;
-    let wake = wake_tick(time, tick);
+    let wake = wait::begin::wake_tick(time, tick);
     let objects = waiters::push(s, o, c, a);
     let threads = put_parked(ts, c, a, wake);
     let mut q = k;

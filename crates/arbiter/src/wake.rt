@@ -1,6 +1,7 @@
 // A signal at an address: threads parked there wake (the signalling kind of `arbitrate_address`).
 // The arbiter's chain is walked by recursion with a falling allowance, so that a damaged chain ends too.
 use object::slots;
+use object::waiters;
 use object::waiters::Ends;
 use object::waiters::Links;
 use types::kernel::Kernel;
@@ -84,35 +85,6 @@ fn parked_marks(ts: [Thread; 32], a: u32) -> [u32; 32]
     r
 }
 
-// What stands in the cell numbered x, from 1; 0 where there is no such cell.
-fn cell(l: &[u32; 64], x: u32) -> u32
-    requires { ⌜ length (now l) ≡ 64 ⌝ }
-    ensures { λ r. ⌜ r ≡ cells.at (now (l .entry)) x ⌝ }
-{
-    if x == 0 {
-        return 0;
-    }
-    if 64 < x {
-        return 0;
-    }
-    let i = (x - 1) as usize;
-    l[i]
-}
-
-fn put_cell(l: &mut [u32; 64], x: u32, v: u32)
-    requires { ⌜ length (now l) ≡ 64 ⌝ }
-    ensures { λ _. ⌜ now (l .exit) ≡ cells.put (now (l .entry)) x v ⌝ }
-{
-    if x == 0 {
-        return;
-    }
-    if 64 < x {
-        return;
-    }
-    let i = (x - 1) as usize;
-    l[i] = v;
-}
-
 // A number past the places has no mark.
 fn is_marked(p: &[u32; 32], t: u32) -> bool
     requires { ⌜ length (now p) ≡ 32 ⌝ }
@@ -167,13 +139,13 @@ fn decide(
     ensures { λ r. ⌜ r .woken ≤ n + 1 ⌝ }
     ensures { λ _. ⌜ length (now (parked .exit)) ≡ 32 ⌝ }
 {
-    if cell(addresses, x) != a {
+    if waiters::cell(addresses, x) != a {
         return Decision {
             stays: true,
             woken: n,
         };
     }
-    let t = cell(threads, x);
+    let t = waiters::cell(threads, x);
     if !is_marked(parked, t) {
         return Decision {
             stays: false,
@@ -211,15 +183,15 @@ fn link_cells(
     ensures { λ _. ⌜ length (now (nexts .exit)) ≡ 64 ⌝ }
 {
     if keep {
-        put_cell(nexts, x, u.head);
+        waiters::put_cell(nexts, x, u.head);
         return Ends {
             free: u.free,
             head: x,
         };
     }
-    put_cell(threads, x, 0);
-    put_cell(addresses, x, 0);
-    put_cell(nexts, x, u.free);
+    waiters::put_cell(threads, x, 0);
+    waiters::put_cell(addresses, x, 0);
+    waiters::put_cell(nexts, x, u.free);
     Ends {
         free: x,
         head: u.head,
@@ -264,7 +236,7 @@ fn unlink_woken(
             head: 0,
         };
     }
-    let next = cell(nexts, at);
+    let next = waiters::cell(nexts, at);
     let d = decide(threads, addresses, parked, a, value, n, at);
     let u = unlink_woken(
         threads,
@@ -279,28 +251,6 @@ fn unlink_woken(
         free,
     );
     link_cells(threads, addresses, nexts, d.stays, at, u)
-}
-
-// The records that have these columns.
-fn join(threads: [u32; 64], addresses: [u32; 64], nexts: [u32; 64]) -> [Waiter; 64]
-    ensures { λ r. ⌜ r ≡ joined threads addresses nexts ⌝ }
-{
-    let none = Waiter {
-        thread: 0,
-        address: 0,
-        next: 0,
-    };
-    let mut l = [none; 64];
-    let mut i: usize = 0;
-    while i < 64 {
-        l[i] = Waiter {
-            thread: threads[i],
-            address: addresses[i],
-            next: nexts[i],
-        };
-        i += 1;
-    }
-    l
 }
 
 fn unlink_chain(
@@ -331,40 +281,11 @@ fn unlink_chain(
         64,
         free,
     );
-    let l = join(threads, addresses, nexts);
+    let l = waiters::join(threads, addresses, nexts);
     Links {
         waiters: l,
         free: u.free,
         head: u.head,
-    }
-}
-
-// Only an arbiter has a chain.
-fn with_head(o: KObject, h: u32) -> KObject
-    ensures { λ r. ⌜ r ≡ withHead o h ⌝ }
-{
-    match o {
-        KObject::Free(n) => KObject::Free(n),
-        KObject::Thread(t) => KObject::Thread(t),
-        KObject::Event(e) => KObject::Event(e),
-        KObject::Mutex(m) => KObject::Mutex(m),
-        KObject::Semaphore(s) => KObject::Semaphore(s),
-        KObject::Timer(t) => KObject::Timer(t),
-        KObject::AddressArbiter(_a) => KObject::AddressArbiter(AddressArbiter { waiters: h }),
-        KObject::Process => KObject::Process,
-        KObject::ResourceLimit => KObject::ResourceLimit,
-    }
-}
-
-fn headed(s: Slot, h: u32) -> Slot
-    ensures { λ r. ⌜ r ≡ withObject s (withHead (s .object) h) ⌝ }
-{
-    let o = s.object;
-    let x = with_head(o, h);
-    Slot {
-        object: x,
-        refcount: s.refcount,
-        pulsed: s.pulsed,
     }
 }
 
@@ -393,7 +314,7 @@ fn signal_waiters(
         s.free_waiter,
     );
     let l = u.waiters;
-    let mut q = slots::put_slot(s, o, headed(old, u.head));
+    let mut q = slots::put_slot(s, o, waiters::headed(old, u.head));
     q.waiters = l;
     q.free_waiter = u.free;
     q

@@ -213,6 +213,6 @@ pub fn wait_synchronization_n(k: Kernel, r: Registers, words: [u32; 8], n: u32, 
     }
     let c = types::thread::thread_value(current);
     let m = places::least_of(n, 8);
-    let nanos = waits::pair_of(r.r0, r.r4);
+    let nanos = calls::call::pair(r.r0, r.r4);
     wait_list(q, c, l, m, r.r3 != 0, nanos, tick)
 }

@@ -30,20 +30,6 @@ ghost use Rattle.svc.specs.Call.{pair, negative};
 ghost use Rattle.svc.specs.Waits as def;
 ghost use Rattle.blocking.specs.Waits.{waitOnIn};
 
-// Two registers as a number of 64 bits.
-pub fn pair_of(low: u32, high: u32) -> u64
-    ensures { λ r. ⌜ r ≡ pair low high ⌝ }
-{
-    low as u64 + high as u64 * 4294967296
-}
-
-// Below 0 as a signed number of 64 bits.
-pub fn is_negative(n: u64) -> bool
-    ensures { λ r. ⌜ r ≡ negative n ⌝ }
-{
-    9223372036854775807 < n
-}
-
 // 0xFFFF8000 and 0xFFFF8001, which name no entry of the table.
 pub fn is_pseudo(h: u32) -> bool
     ensures { λ r. ⌜ r ≡ pseudo h ⌝ }
@@ -58,7 +44,7 @@ pub fn is_pseudo(h: u32) -> bool
 fn wait_time(nanos: u64) -> TickOption
     ensures { λ r. ⌜ r ≡ def.waitTime nanos ⌝ }
 {
-    if is_negative(nanos) {
+    if calls::call::negative(nanos) {
         return TickOption::NoTick;
     }
     TickOption::SomeTick(units::nanos_to_ticks(Nanos(nanos)))
@@ -215,7 +201,7 @@ pub fn wait_synchronization1(k: Kernel, r: Registers, tick: u64) -> Served
         q,
         types::thread::thread_value(current),
         o,
-        pair_of(r.r2, r.r3),
+        calls::call::pair(r.r2, r.r3),
         tick,
     )
 }

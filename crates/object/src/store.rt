@@ -131,6 +131,8 @@ pub fn release(s: ObjectStore, o: ObjectId) -> ObjectStore
             },
         );
     }
+    // The mark stays with the slot.
+    let mark = old.pulsed;
     let ws = s.waiters;
     let every = [1u32; 1];
     let u = waiters::unlink(
@@ -148,7 +150,7 @@ pub fn release(s: ObjectStore, o: ObjectId) -> ObjectStore
         Slot {
             object: KObject::Free(s.free),
             refcount: 0,
-            pulsed: old.pulsed,
+            pulsed: mark,
         },
     );
     q.free = o.0;

@@ -144,7 +144,7 @@ pub struct Ends {
 }
 
 // What stands in the cell numbered x, from 1; 0 where there is no such cell.
-fn cell(l: &[u32; 64], x: u32) -> u32
+pub fn cell(l: &[u32; 64], x: u32) -> u32
     requires { ⌜ length (now l) ≡ 64 ⌝ }
     ensures { λ r. ⌜ r ≡ cells.at (now (l .entry)) x ⌝ }
 {
@@ -158,7 +158,7 @@ fn cell(l: &[u32; 64], x: u32) -> u32
     l[i]
 }
 
-fn put_cell(l: &mut [u32; 64], x: u32, v: u32)
+pub fn put_cell(l: &mut [u32; 64], x: u32, v: u32)
     requires { ⌜ length (now l) ≡ 64 ⌝ }
     ensures { λ _. ⌜ now (l .exit) ≡ cells.put (now (l .entry)) x v ⌝ }
 {
@@ -223,7 +223,7 @@ fn unlink_thread(
 }
 
 // The records that have these columns.
-fn join(threads: [u32; 64], addresses: [u32; 64], nexts: [u32; 64]) -> [Waiter; 64]
+pub fn join(threads: [u32; 64], addresses: [u32; 64], nexts: [u32; 64]) -> [Waiter; 64]
     ensures { λ r. ⌜ r ≡ joined threads addresses nexts ⌝ }
 {
     let none = Waiter {
@@ -245,7 +245,7 @@ fn join(threads: [u32; 64], addresses: [u32; 64], nexts: [u32; 64]) -> [Waiter; 
 }
 
 // Only an arbiter has a chain.
-fn with_head(o: KObject, h: u32) -> KObject
+pub fn with_head(o: KObject, h: u32) -> KObject
     ensures { λ r. ⌜ r ≡ def.withHead o h ⌝ }
 {
     match o {
@@ -277,7 +277,7 @@ fn is_arbiter(o: KObject) -> bool
     }
 }
 
-fn headed(s: Slot, h: u32) -> Slot
+pub fn headed(s: Slot, h: u32) -> Slot
     ensures { λ r. ⌜ r ≡ withObject s (def.withHead (s .object) h) ⌝ }
 {
     let o = s.object;

@@ -24,7 +24,7 @@ pub fn saturating_add(a: u64, b: u64) -> u64
     a + b
 }
 
-fn wake_tick(timeout: TickOption, tick: u64) -> TickOption
+pub fn wake_tick(timeout: TickOption, tick: u64) -> TickOption
     ensures { λ r. ⌜ r ≡ def.wakeTick timeout tick ⌝ }
 {
     match timeout {

@@ -72,8 +72,8 @@ returns-4 c =
     (d .if2 .came) in
     rw (c .signal-address .ensures) (signals k (a .r) (a .word) (a .tick) (d .if2 .s) (d .if2 .o .0) (d .before .before .before .before .before .if1 .left) (f .0) (f .1) (c .before .before .before .before .before .if3 .left) (c .before .before .before .before .if4 .taken))
 
-pair-of-requires : tie.Need-pair-of-requires
-pair-of-requires c κs = search needs
+pair-requires : tie.Need-pair-requires
+pair-requires c κs = search needs
 
 park-time-requires : tie.Need-park-time-requires
 park-time-requires c κs = search needs
@@ -94,7 +94,7 @@ returns-5 c =
     (λ w. let p = sym (plain (k .«current_thread») (k .handles) (k .objects) h (sym (d .before .is-pseudo .ensures) ∙ w .0 .left)) in
     (w .1 ∙ ap (λ (v : Resolved). v .store) p, ap (λ (v : ObjectId). v .0) (w .2) ∙ d .before .before .object-of .ensures ∙ ap (λ (v : Resolved). v .object .0) p))
     (d .if2 .came) in
-    rw (c .before .park-time .ensures, c .before .before .pair-of .ensures) at (c .wait-below .ensures) ∙ waits k (a .r) (a .word) (a .tick) (d .if2 .s) (d .if2 .o .0) (d .before .before .before .before .before .if1 .left) (f .0) (f .1) (c .before .before .before .before .if3 .left) (c .before .before .before .if4 .left)
+    rw (c .before .park-time .ensures, c .before .before .pair .ensures) at (c .wait-below .ensures) ∙ waits k (a .r) (a .word) (a .tick) (d .if2 .s) (d .if2 .o .0) (d .before .before .before .before .before .if1 .left) (f .0) (f .1) (c .before .before .before .before .if3 .left) (c .before .before .before .if4 .left)
 
 pub arbitrate-address-spec : {M : Type 1} → statement M
 arbitrate-address-spec =
@@ -109,7 +109,7 @@ arbitrate-address-spec =
     returns-3
     signal-address-requires
     returns-4
-    pair-of-requires
+    pair-requires
     park-time-requires
     wait-below-requires
     returns-5)

@@ -8,7 +8,7 @@ use borrow.Fn.PlainCycle.{Measures, is, falls, and}
 use Rattle.arbiter.proofs.wake.unlink_woken.Reads as unlink-woken
 use Rattle.arbiter.proofs.wake.unlink_woken.Kinds as unlink-woken-kinds
 use Rattle.arbiter.proofs.wake.+unlink_woken.Lts-unlink_woken as unlink-woken-lts
-use Rattle.arbiter.proofs.wake.cell.Reads as cell-reads
+use Rattle.object.proofs.waiters.cell.Reads as cell-reads
 use Rattle.arbiter.proofs.wake.decide.Reads as decide-reads
 use Rattle.arbiter.proofs.wake.link_cells.Reads as link-cells-reads
 use Rattle.arbiter.proofs.wake.+unlink_woken.{statement}

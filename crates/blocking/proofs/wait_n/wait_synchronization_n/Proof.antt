@@ -57,8 +57,8 @@ thread-value-requires c κs = search needs
 least-of-requires : tie.Need-least-of-requires
 least-of-requires c κs = search needs
 
-pair-of-requires : tie.Need-pair-of-requires
-pair-of-requires c κs = search needs
+pair-requires : tie.Need-pair-requires
+pair-requires c κs = search needs
 
 wait-list-requires : tie.Need-wait-list-requires
 wait-list-requires c κs = search needs
@@ -76,7 +76,7 @@ returns-3 c =
     (b .if1 .came) in
     let x = d .open-all .result in
     let v = d .open-all .ensures in
-    rw (c .before .before .before .before .thread-value .ensures, c .before .before .before .least-of .ensures, c .before .before .pair-of .ensures) at (c .wait-list .ensures)
+    rw (c .before .before .before .before .thread-value .ensures, c .before .before .before .least-of .ensures, c .before .before .pair .ensures) at (c .wait-list .ensures)
     ∙ waitsN k (a .r) (take (a .n) (a .words)) (a .tick) (b .if1 .s) (x .store) (x .objects) (x .known) e (v .0, (v .1 .0, v .1 .1 .0)) (a .words) (a .n) refl (v .1 .1 .1) (not-false _ (c .before .before .before .before .before .before .before .if2 .left)) (λ z. c .before .before .before .before .before .if3 .left (c .before .before .before .before .before .before .thread-flag .ensures ∙ z))
 
 pub wait-synchronization-n-spec : {M : Type 1} → statement M
@@ -91,6 +91,6 @@ wait-synchronization-n-spec =
     returns-2
     thread-value-requires
     least-of-requires
-    pair-of-requires
+    pair-requires
     wait-list-requires
     returns-3)

@@ -72,8 +72,8 @@ returns-2 c =
 thread-value-requires : tie.Need-thread-value-requires
 thread-value-requires c κs = search needs
 
-pair-of-requires : tie.Need-pair-of-requires
-pair-of-requires c κs = search needs
+pair-requires : tie.Need-pair-requires
+pair-requires c κs = search needs
 
 wait-one-requires : tie.Need-wait-one-requires
 wait-one-requires c κs = search needs
@@ -97,7 +97,7 @@ returns-3 c =
     (λ w. let p = sym (plain (k .«current_thread») (k .handles) (b .if1 .s) h (sym (d .before .is-pseudo .ensures) ∙ w .0 .left)) in
     (w .1 ∙ ap (λ (v : Resolved). v .store) p, ap (λ (v : ObjectId). v .0) (w .2) ∙ d .before .before .object-of .ensures ∙ ap (λ (v : Resolved). v .object .0) p))
     (d .if2 .came) in
-    rw (c .before .before .thread-value .ensures, c .before .pair-of .ensures) at (c .wait-one .ensures) ∙ waits1 k (a .r) (a .tick) (b .if1 .s) (d .if2 .s) (d .if2 .o .0) e (f .0) (f .1) (c .before .before .before .before .before .if3 .left) (λ z. c .before .before .before .if4 .left (c .before .before .before .before .thread-flag .ensures ∙ z))
+    rw (c .before .before .thread-value .ensures, c .before .pair .ensures) at (c .wait-one .ensures) ∙ waits1 k (a .r) (a .tick) (b .if1 .s) (d .if2 .s) (d .if2 .o .0) e (f .0) (f .1) (c .before .before .before .before .before .if3 .left) (λ z. c .before .before .before .if4 .left (c .before .before .before .before .thread-flag .ensures ∙ z))
 
 pub wait-synchronization1-spec : {M : Type 1} → statement M
 wait-synchronization1-spec =
@@ -112,6 +112,6 @@ wait-synchronization1-spec =
     thread-flag-requires
     returns-2
     thread-value-requires
-    pair-of-requires
+    pair-requires
     wait-one-requires
     returns-3)

@@ -17,8 +17,8 @@ returns c = let k = c .before in
     let dead = rw (k .kind-number .ensures, k .before .slot-at .ensures) at (eq-eqb _ _ (c .if1 .taken)) in
     rw dead
 
-sub-t13 : tie.Need-sub-t13
-sub-t13 c = search needs
+sub-t14 : tie.Need-sub-t14
+sub-t14 c = search needs
 
 put-slot-requires : tie.Need-put-slot-requires
 put-slot-requires c κs = search needs
@@ -63,7 +63,7 @@ release-spec =
     slot-at-requires
     kind-number-requires
     returns
-    sub-t13
+    sub-t14
     put-slot-requires
     returns-2
     slice-aggregate-unlink
