@@ -1,5 +1,6 @@
 # make             prove and write the static library, then run the C tests of its exports
 # make test        prove everything, then all C tests that need no original
+# make demo        three guest programs on a simulated clock; prints their timeline
 # make differential, flips, bench, bench-original, profile     need cargo and ORIGINAL, a copy of the original's source
 CC = gcc
 CFLAGS = -std=c11 -O2 -Wall -Wextra -Iinclude
@@ -34,9 +35,13 @@ staticlib:
 
 $(PROVED): staticlib
 
-host-test: $(C)/host
+host-test: $(C)/host $(C)/demo
 	sh tests/exports.sh $(KERNEL_LIB)
+	$(C)/demo | cmp - demo/timeline.txt
 	$(C)/host
+
+demo: $(C)/demo
+	$(C)/demo
 
 # only the fresh block, which needs no file
 flip-fresh: $(C)/flips
@@ -71,6 +76,9 @@ blocks: oracle
 $(C)/host: $(HOST:%=$(C)/obj/tests/%.o) $(KERNEL_LIB)
 	$(CC) -o $@ $^
 
+$(C)/demo: $(C)/obj/demo/demo.o $(KERNEL_LIB)
+	$(CC) -o $@ $^
+
 $(C)/flips: $(FLIPS:%=$(C)/obj/tests/%.o) $(KERNEL_LIB)
 	$(CC) -o $@ $^
 
@@ -90,4 +98,4 @@ $(C)/obj/%.o: %.c $(wildcard include/*.h tests/*.h bench/*.h)
 clean:
 	rm -rf target oracle/target
 
-.PHONY: all test staticlib host-test flip-fresh flips bench bench-original profile original oracle differential blocks clean
+.PHONY: all test staticlib host-test demo flip-fresh flips bench bench-original profile original oracle differential blocks clean
