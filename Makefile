@@ -1,7 +1,7 @@
 # make             prove and write the static library, then run the C tests of its exports
 # make test        prove everything, then all C tests that need no original
 # make demo        three guest programs on a simulated clock; prints their timeline
-# make differential, flips, bench, bench-original, profile     need cargo and ORIGINAL, a copy of the original's source
+# make differential, record, flips, bench, bench-original, profile     need cargo and ORIGINAL, a copy of the original's source
 CC = gcc
 CFLAGS = -std=c11 -O2 -Wall -Wextra -Iinclude
 
@@ -70,6 +70,10 @@ oracle: original $(KERNEL_LIB)
 differential: oracle
 	$(DRIVER) compare --seed $(SEED) --count $(COUNT)
 
+# the sample that crates/replay replays, and what it is to write
+record: oracle
+	$(DRIVER) record crates/replay
+
 blocks: oracle
 	$(DRIVER) blocks target/blocks $(BLOCKS)
 
@@ -98,4 +102,4 @@ $(C)/obj/%.o: %.c $(wildcard include/*.h tests/*.h bench/*.h)
 clean:
 	rm -rf target oracle/target
 
-.PHONY: all test staticlib host-test demo flip-fresh flips bench bench-original profile original oracle differential blocks clean
+.PHONY: all test staticlib host-test demo flip-fresh flips bench bench-original profile original oracle differential record blocks clean

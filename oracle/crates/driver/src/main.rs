@@ -10,13 +10,14 @@ mod figures;
 mod lent;
 mod port;
 mod question;
+mod record;
 mod rich;
 mod state;
 
 use oracle::gen::PROFILES;
 use std::process::ExitCode;
 
-const USAGE: &str = "usage: driver compare [--seed S] [--count N] [--profile P] [--calls NAME,..] [--text] | driver list | driver blocks DIR N | driver bench [--rounds N]";
+const USAGE: &str = "usage: driver compare [--seed S] [--count N] [--profile P] [--calls NAME,..] [--text] | driver list | driver blocks DIR N | driver bench [--rounds N] | driver record DIR [--seed S] [--count N] [--max BYTES]";
 
 fn named(args: &[String], name: &str) -> Option<String> { args.iter().position(|a| a == name).and_then(|i| args.get(i + 1).cloned()) }
 
@@ -39,6 +40,12 @@ fn run(args: &[String]) -> Result<bool, String> {
         Some("blocks") => {
             let (dir, count) = (args.get(1).ok_or(USAGE)?, args.get(2).and_then(|n| n.parse().ok()).ok_or(USAGE)?);
             blocks::blocks(dir.as_ref(), count).map_err(|e| e.to_string())?;
+            Ok(true)
+        }
+        Some("record") => {
+            let number = |name: &str, otherwise: u64| named(args, name).map_or(Ok(otherwise), |v| v.parse::<u64>().map_err(|e| format!("{name}: {e}")));
+            oracle::quiet_panics();
+            record::record(args.get(1).ok_or(USAGE)?.as_ref(), number("--seed", 1)?, number("--count", 60)?, number("--max", 240_000)? as usize)?;
             Ok(true)
         }
         Some("bench") => {
