@@ -2,10 +2,9 @@
 use mathlib.Core.Path.{_≡_}
 use mathlib.Core.Bool.{Bool, true, false}
 use mathlib.Core.List.{List, [], _∷_}
-use Prim.Native.Nat.{ℕ, _<_}
+use Prim.Native.Nat.{_<_}
 use Rattle.types.specs.declared.kernel.Kernel.{Kernel}
 use Rattle.sound.specs.Sound.{Sound}
-use Rattle.svc.specs.declared.Registers.{Registers}
 use Rattle.svc.specs.Dispatch.{runs?}
 use Rattle.demand.specs.Words.{Doing, starts, creates, passes, looks, ends, calls, collects, effect, Event}
 

@@ -1,22 +1,19 @@
 -- A wait ends by time-out exactly at the first accepted pass from its wake tick on, if nothing was given by then.
 use mathlib.Core.Path.{_≡_, refl, ap, sym, subst, _∙_}
 use mathlib.Core.Bool.{Bool, true, false}
-use mathlib.Core.Logic.{_≢_}
 use mathlib.Core.List.{List, [], _∷_}
 use Prim.Native.Nat.{ℕ, zero, suc, _<_}
 use native.Mathlib.Omega.{arith}
-use lib.Dec.{eqb, leb}
 use borrow.Author.Tests.{eqb-false, le-leb, lt-leb}
 use Rattle.laws.specs.Logic.{_and_, false-true}
 use Rattle.types.specs.declared.thread.ThreadStatus.{ThreadStatus}
 use Rattle.types.specs.declared.thread.ThreadStatus.the-variants.{Dead, Running, Ready, Sleeping, WaitSync, WaitArbiter, Dormant}
-use Rattle.types.specs.declared.thread.TickOption.{TickOption}
 use Rattle.types.specs.declared.thread.TickOption.the-variants.{SomeTick}
 use Rattle.types.specs.declared.kernel.Kernel.{Kernel}
 use Rattle.types.specs.Thread.{isBlocked}
 use Rattle.sound.specs.View.{threadAt}
 use Rattle.sound.specs.Sound.{Sound}
-use Rattle.soundness.specs.Whole.{Parts, sound-parts}
+use Rattle.soundness.specs.Whole.{sound-parts}
 use Rattle.kernel.specs.NextEvent.{contains}
 use Rattle.pass.specs.Pick.{isRunnable}
 use Rattle.svc.specs.declared.Registers.{Registers}
@@ -27,7 +24,7 @@ use Rattle.timing.specs.Others.{create-other, end-other}
 use Rattle.timing.specs.Ends as one
 use Rattle.deadlines.specs.Ends.{call-runnable, call-waits}
 use Rattle.deadlines.specs.Collect.{collect-waits}
-use Rattle.course.specs.Course.{Asked, Real, Course, event}
+use Rattle.course.specs.Course.{Asked, Course, event}
 
 -- thread τ is in a wait that runs out at w
 pub record InWait (τ w : ℕ) (k : Kernel) : Type 0 where

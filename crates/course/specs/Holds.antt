@@ -1,7 +1,7 @@
 -- The three parts of demand 3 that speak of what comes after an operation.
-use mathlib.Core.Path.{_≡_, refl, ap, sym, subst, _∙_}
-use mathlib.Core.Bool.{Bool, true, false}
-use mathlib.Core.List.{List, [], _∷_}
+use mathlib.Core.Path.{_≡_, ap, sym, subst, _∙_}
+use mathlib.Core.Bool.{true}
+use mathlib.Core.List.{List, []}
 use Prim.Native.Nat.{ℕ, _+_}
 use Rattle.units.specs.Ticks.{nanosToTicks}
 use Rattle.types.specs.declared.kernel.Kernel.{Kernel}
@@ -13,8 +13,8 @@ use Rattle.svc.specs.declared.Registers.{Registers}
 use Rattle.svc.specs.Call.{pair}
 use Rattle.svc.specs.Timers.{notBelow}
 use Rattle.svc.specs.Dispatch.{call}
-use Rattle.demand.specs.Words.{Doing, calls, effect, Event, waitNanos, Begins, Sets, Open, Ends, Runs, KeepsGrid}
-use Rattle.timing.specs.Clock.{Clock, clockAt}
+use Rattle.demand.specs.Words.{Doing, calls, effect, Event, waitNanos, Begins, Ends, Runs, KeepsGrid}
+use Rattle.timing.specs.Clock.{clockAt}
 use Rattle.timing.specs.Fires.{firedClocks}
 use Rattle.clocks.specs.Timers.{set-clock}
 use Rattle.deadlines.specs.Effect.{Timed, runsOut}

@@ -6,13 +6,11 @@ use mathlib.Core.List.{List, [], _∷_}
 use Prim.Native.Nat.{ℕ}
 use Rattle.laws.specs.Logic.{_and_, and-true, false-true}
 use Rattle.types.specs.declared.kernel.Kernel.{Kernel}
-use Rattle.types.specs.declared.thread.ThreadOption.the-variants.{SomeThread}
 use Rattle.sound.specs.View.{threadAt}
-use Rattle.sound.specs.Sound.{Sound}
-use Rattle.soundness.specs.Whole.{Parts, sound-parts}
+use Rattle.soundness.specs.Whole.{sound-parts}
 use Rattle.pass.specs.Pick.{isRunnable}
 use Rattle.pass.specs.Schedule.{schedule}
-use Rattle.demand.specs.Words.{Doing, starts, creates, passes, looks, ends, calls, collects, effect, Event, strikes?, Spared, isPass, pass?, Lowest, LowestAt, RunsAt, IfElse, AtNextPass, AtAwake, InTwo}
+use Rattle.demand.specs.Words.{Doing, starts, creates, passes, looks, ends, calls, collects, effect, Event, strikes?, Spared, isPass, pass?, Lowest, LowestAt, RunsAt, IfElse, AtNextPass, InTwo}
 use Rattle.timing.specs.Runs.{Urgent, runs-in-two, urgent-after}
 use Rattle.timing.specs.Relief.{create-relief, end-relief}
 use Rattle.deadlines.specs.Ends.{call-relief}

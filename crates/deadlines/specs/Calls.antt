@@ -6,14 +6,14 @@ use Prim.Native.Nat.{ℕ}
 use lib.Dec.{eqb}
 use lib.ListN.{getD}
 use borrow.Author.Tests.{eqb-true}
-use Rattle.laws.specs.Logic.{pick, pick-no, _and_, _or_}
+use Rattle.laws.specs.Logic.{pick-no, _and_, _or_}
 use Rattle.types.specs.declared.kernel.Kernel.{Kernel}
 use Rattle.types.specs.Sync.{arbitrationFromRaw}
 use Rattle.soundness.specs.Slots.{pick-if}
 use Rattle.soundness.specs.Whole.{Parts}
 use Rattle.svc.specs.declared.Registers.{Registers}
 use Rattle.svc.specs.declared.Served.{Served}
-use Rattle.svc.specs.Call.{silent, pair}
+use Rattle.svc.specs.Call.{silent}
 use Rattle.svc.specs.Threads.{createThread, exitThread, sleepThread, setThreadPriority}
 use Rattle.svc.specs.Sync.{createMutex, releaseMutex, createSemaphore, releaseSemaphore, createEvent, signalEvent, clearEvent}
 use Rattle.svc.specs.Timers.{createTimer, setTimer, cancelTimer, clearTimer}

@@ -9,8 +9,7 @@ use Rattle.laws.specs.Logic.{pick, _and_, _or_}
 use Rattle.laws.specs.All.{All}
 use Rattle.laws.specs.Count.{count}
 use Rattle.units.specs.Ticks.{nanosToTicks}
-use Rattle.types.specs.declared.thread.ThreadOption.{ThreadOption}
-use Rattle.types.specs.declared.thread.ThreadOption.the-variants.{NoThread, SomeThread}
+use Rattle.types.specs.declared.thread.ThreadOption.the-variants.{SomeThread}
 use Rattle.types.specs.declared.thread.TickOption.{TickOption}
 use Rattle.types.specs.declared.thread.TickOption.the-variants.{NoTick, SomeTick}
 use Rattle.types.specs.declared.sync.ArbitrationType.{ArbitrationType}
@@ -19,7 +18,6 @@ use Rattle.types.specs.declared.sync.ArbitrationOption.{ArbitrationOption}
 use Rattle.types.specs.declared.sync.ArbitrationOption.the-variants.{NoArbitration, SomeArbitration}
 use Rattle.types.specs.declared.thread.Thread.{Thread}
 use Rattle.types.specs.declared.object.KObject.{KObject}
-use Rattle.types.specs.declared.object.ObjectStore.{ObjectStore}
 use Rattle.types.specs.declared.kernel.Kernel.{Kernel}
 use Rattle.types.specs.Thread.{isBlocked}
 use Rattle.types.specs.Sync.{arbitrationFromRaw}

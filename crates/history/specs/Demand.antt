@@ -1,6 +1,6 @@
 -- Demand 3 of document 00: one theorem over every list of operations and every first block. Its words are in demand/specs/Words.antt.
 use mathlib.Core.Path.{_≡_}
-use mathlib.Core.Bool.{Bool, true, false}
+use mathlib.Core.Bool.{true, false}
 use mathlib.Core.List.{List, [], _∷_, map}
 use Prim.Native.Nat.{ℕ}
 use Rattle.sound.specs.Question.{sound?}

@@ -1,7 +1,7 @@
 -- A guest call and collect: an accepted one leaves a block that question 2 accepts, a refused one leaves what was lent.
 use mathlib.Core.Path.{_≡_, refl, sym, ap, _∙_}
 use mathlib.Core.Bool.{Bool, true, false}
-use mathlib.Core.Logic.{_⊎_, inl, inr}
+use mathlib.Core.Logic.{inl, inr}
 use mathlib.Core.List.{List}
 use Prim.Native.Nat.{ℕ, _-_, _≤_, _<_}
 use native.Mathlib.Omega.{arith}
@@ -10,26 +10,24 @@ use lib.ListN.{length}
 use borrow.Author.Tests.{le-leb, ltb-false}
 use Rattle.laws.specs.Logic.{pick, pick-yes, _and_, _or_}
 use Rattle.codec.specs.Bytes.{num, le}
-use Rattle.codec.specs.Layout.{decAll}
 use Rattle.codec.proofs.Back.{Bytes}
 use Rattle.codec.proofs.Fit.{le-lt, length-decAll}
 use Rattle.types.specs.declared.kernel.Kernel.{Kernel}
 use Rattle.block.specs.Block.{encBlock}
-use Rattle.sound.specs.Sound.{Sound}
 use Rattle.soundness.specs.Fits.{Word}
 use Rattle.soundness.specs.Slots.{pick-both}
 use Rattle.svc.specs.declared.Registers.{Registers}
-use Rattle.svc.specs.Table.{rowOf, known?, bit, masked, readBy}
+use Rattle.svc.specs.Table.{rowOf, known?, bit, masked}
 use Rattle.svc.specs.Dispatch.{wordsRead, given, runs?, tooMany?, outside?, refusal, call}
 use Rattle.svc.specs.Collect as svc
 use Rattle.calling.specs.Call.{RegistersFit, Clear, Accepted}
 use Rattle.calling.specs.Collect.{collect-sound}
 use Rattle.parking.specs.Calls.{call-sound, call-answers}
 use Rattle.demand.specs.Words.{calls, collects}
-use Rattle.lent.specs.Lent.{Lent, lent, Back, back, accepted?}
-use Rattle.lent.specs.Operations.{outOfHandles?, finding, change}
+use Rattle.lent.specs.Lent.{Lent, lent, back, accepted?}
+use Rattle.lent.specs.Operations.{outOfHandles?, finding}
 use Rattle.lent.specs.Guest.{registers, windowOk, wordsIn, served, servedWritten, dispatch, collectBytes, collect}
-use Rattle.history.specs.Keeps.{Kept, Refusal, Works, change-keeps}
+use Rattle.history.specs.Keeps.{Kept, Refusal, change-keeps}
 
 -- ---- nothing was found
 module _ (k : Kernel) where

@@ -1,6 +1,6 @@
 -- The exported operations: question 1, question 2, their own questions, the work, questions 7 and 8.
-use mathlib.Core.Bool.{Bool, true, false, not}
-use mathlib.Core.List.{List, _++_, map}
+use mathlib.Core.Bool.{Bool, not}
+use mathlib.Core.List.{List, _++_}
 use Prim.Native.Nat.{ℕ, _*_, _/_, _%_}
 use lib.Dec.{eqb, ltb}
 use lib.ListN.{length, replicate, take, drop}

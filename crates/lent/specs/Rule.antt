@@ -3,13 +3,13 @@
 use mathlib.Core.Path.{_≡_, refl, ap, subst, _∙_}
 use mathlib.Core.Bool.{Bool, true, false}
 use mathlib.Core.List.{List, _++_}
-use Prim.Native.Nat.{ℕ, _+_, _≤_, _<_}
+use Prim.Native.Nat.{ℕ, _+_, _≤_}
 use native.Mathlib.Omega.{arith}
 use lib.Dec.{eqb}
 use lib.ListN.{length, take, drop, length-drop}
 use lib.Seq.{drop-drop, length-take-le}
 use Rattle.laws.specs.Logic.{pick, _and_}
-use Rattle.codec.specs.Bytes.{num, bytes, le, over}
+use Rattle.codec.specs.Bytes.{bytes, le, over}
 use Rattle.codec.proofs.Laws.{bytes-num}
 use Rattle.codec.proofs.Back.{Bytes, bytes-part}
 use Rattle.types.specs.declared.kernel.Kernel.{Kernel}
@@ -17,7 +17,7 @@ use Rattle.svc.specs.declared.Registers.{Registers}
 use Rattle.svc.specs.declared.WordOption.{WordOption}
 use Rattle.svc.specs.declared.WordOption.the-variants.{NoWord, SomeWord}
 use Rattle.svc.specs.declared.Served.{Served}
-use Rattle.svc.specs.Table.{rowOf, bit, masked, readBy, writtenAs, written}
+use Rattle.svc.specs.Table.{rowOf, bit, writtenAs, written}
 use Rattle.block.specs.Block.{encBlock, decBlock}
 use Rattle.sound.specs.Question.{sound?}
 use Rattle.svc.specs.Dispatch.{given, refusal, call}

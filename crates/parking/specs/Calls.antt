@@ -1,24 +1,16 @@
 -- Every guest call, by its number, keeps a state sound, and its answer is an accepted one.
 use mathlib.Core.Path.{_≡_, refl}
-use mathlib.Core.Bool.{Bool, true, false}
-use mathlib.Core.Logic.{_⊎_, inl, inr}
+use mathlib.Core.Bool.{true}
+use mathlib.Core.Logic.{inl}
 use mathlib.Core.List.{List}
 use Prim.Native.Nat.{ℕ, _≤_, _<_}
 use lib.Dec.{eqb}
 use lib.ListN.{length, getD}
-use Rattle.laws.specs.Logic.{pick}
 use Rattle.types.specs.declared.kernel.Kernel.{Kernel}
 use Rattle.sound.specs.Sound.{Sound}
 use Rattle.soundness.specs.Slots.{pick-both, pick-if}
 use Rattle.svc.specs.declared.Registers.{Registers}
 use Rattle.svc.specs.declared.Served.{Served}
-use Rattle.svc.specs.Call.{silent}
-use Rattle.svc.specs.Threads.{createThread, exitThread, sleepThread, setThreadPriority}
-use Rattle.svc.specs.Sync.{createMutex, releaseMutex, createSemaphore, releaseSemaphore, createEvent, signalEvent, clearEvent}
-use Rattle.svc.specs.Timers.{createTimer, setTimer, cancelTimer, clearTimer}
-use Rattle.svc.specs.Arbiter.{createAddressArbiter, arbitrateAddress}
-use Rattle.svc.specs.Waits.{waitSynchronization1, waitSynchronizationN}
-use Rattle.svc.specs.Handles.{closeHandle, duplicateHandle}
 use Rattle.svc.specs.Dispatch.{runs?, call}
 use Rattle.calling.specs.Call.{RegistersFit, Clear, Accepted}
 use Rattle.calling.specs.Threads.{createThread-sound, createThread-answers, exitThread-sound, exitThread-answers, sleepThread-sound, sleepThread-answers, setThreadPriority-sound, setThreadPriority-answers}

@@ -2,7 +2,7 @@
 use mathlib.Core.Path.{_≡_, refl, _∙_}
 use mathlib.Core.Bool.{Bool, true, false}
 use mathlib.Core.List.{List}
-use Prim.Native.Nat.{ℕ, _^_, _<_}
+use Prim.Native.Nat.{ℕ, _<_}
 use native.Mathlib.Omega.{arith}
 use lib.Dec.{eqb, ltb}
 use lib.ListN.{set}
@@ -14,7 +14,6 @@ use Rattle.types.specs.declared.thread.Thread.{Thread}
 use Rattle.types.specs.declared.sync.ArbitrationType.{ArbitrationType}
 use Rattle.types.specs.declared.object.ObjectStore.{ObjectStore}
 use Rattle.types.specs.declared.kernel.Kernel.{Kernel}
-use Rattle.types.specs.Thread.{tickValue}
 use Rattle.sound.specs.View.{ids, waiterThreads, waiterAddresses, objectAt, threadAt}
 use Rattle.sound.specs.Threads.{Zeros}
 use Rattle.sound.specs.Objects.{names, Live, ContentOk}
@@ -23,7 +22,7 @@ use Rattle.object.specs.Waiters.{isArbiter, pushed, push}
 use Rattle.soundness.specs.Slots.{pick-both}
 use Rattle.soundness.specs.Records.{push-ok, push-full, push-chains}
 use Rattle.soundness.specs.Each.{each-push, content-head}
-use Rattle.soundness.specs.Fits.{Word, z4, z8, push-fits}
+use Rattle.soundness.specs.Fits.{Word, z4, push-fits}
 use Rattle.soundness.specs.Threads.{names-same}
 use Rattle.soundness.specs.Whole.{Parts}
 use Rattle.soundness.specs.Creates.{StoreOk, parts-store, store-more}

@@ -37,7 +37,6 @@ use Rattle.kernel.specs.NextEvent.{contains}
 use Rattle.pass.specs.Signal.{oneLess}
 use Rattle.pass.specs.Waits.{wakeTick}
 use Rattle.svc.specs.declared.Registers.{Registers}
-use Rattle.svc.specs.declared.WordOption.{WordOption}
 use Rattle.svc.specs.declared.WordOption.the-variants.{NoWord, SomeWord}
 use Rattle.svc.specs.declared.Served.{Served}
 use Rattle.svc.specs.Call.{done, answers, invalidHandle, invalidEnumValue, withObjects, withOver, pair, negative, resolved, createObject}

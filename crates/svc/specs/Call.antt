@@ -1,9 +1,7 @@
 -- What the guest calls of svc.rs have in common.
 use mathlib.Core.Bool.{Bool}
-use mathlib.Core.List.{List}
 use Prim.Native.Nat.{ℕ, _+_, _*_}
 use lib.Dec.{ltb}
-use Rattle.laws.specs.Logic.{pick}
 use Rattle.types.specs.declared.object.KObject.{KObject}
 use Rattle.types.specs.declared.object.HandleTable.{HandleTable}
 use Rattle.types.specs.declared.object.ObjectStore.{ObjectStore}
@@ -13,7 +11,6 @@ use Rattle.object.specs.Store.{insert}
 use Rattle.object.specs.Handles.{give}
 use Rattle.object.specs.Kept.{resolve}
 use Rattle.thread.specs.Threads.{withThreads}
-use Rattle.svc.specs.declared.WordOption.{WordOption}
 use Rattle.svc.specs.declared.WordOption.the-variants.{NoWord, SomeWord}
 use Rattle.svc.specs.declared.Served.{Served}
 

@@ -1,5 +1,4 @@
 -- Collect: the current thread's recorded result of a wait and the call that it was for are handed out and cleared.
-use Prim.Native.Nat.{ℕ}
 use lib.ListN.{set}
 use Rattle.types.specs.declared.thread.ThreadOption.{ThreadOption}
 use Rattle.types.specs.declared.thread.ThreadOption.the-variants.{NoThread, SomeThread}

@@ -1,6 +1,4 @@
 -- `close_handle` and `duplicate_handle` of svc.rs.
-use mathlib.Core.Bool.{Bool}
-use Prim.Native.Nat.{ℕ}
 use lib.Dec.{eqb}
 use Rattle.laws.specs.Logic.{pick}
 use Rattle.types.specs.declared.kernel.Kernel.{Kernel}

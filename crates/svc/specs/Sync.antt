@@ -1,15 +1,14 @@
 -- The calls on mutexes, semaphores and events of svc.rs.
-use mathlib.Core.Bool.{Bool, true, false, not}
+use mathlib.Core.Bool.{Bool, false, not}
 use Prim.Native.Nat.{ℕ, _+_, _-_, _%_}
 use lib.Dec.{eqb, leb, ltb}
 use Rattle.laws.specs.Logic.{pick, _or_}
 use Rattle.types.specs.declared.thread.ThreadOption.{ThreadOption}
-use Rattle.types.specs.declared.thread.ThreadOption.the-variants.{NoThread, SomeThread}
+use Rattle.types.specs.declared.thread.ThreadOption.the-variants.{NoThread}
 use Rattle.types.specs.declared.sync.Mutex as mu
 use Rattle.types.specs.declared.sync.Semaphore as se
 use Rattle.types.specs.declared.object.KObject.{KObject}
 use Rattle.types.specs.declared.object.KObject.the-variants.{Free, Thread, Event, Mutex, Semaphore, Timer, AddressArbiter, Process, ResourceLimit}
-use Rattle.types.specs.declared.object.ObjectStore.{ObjectStore}
 use Rattle.types.specs.declared.kernel.Kernel.{Kernel}
 use Rattle.types.specs.Sync.{resetFromRaw}
 use Rattle.sound.specs.View.{objectAt}

@@ -1,6 +1,4 @@
 -- The calls on threads: `create_thread`, `exit_thread`, `sleep_thread`, `set_thread_priority` of svc.rs.
-use mathlib.Core.Bool.{Bool, true, false}
-use mathlib.Core.List.{List}
 use Prim.Native.Nat.{ℕ}
 use lib.Dec.{eqb}
 use lib.ListN.{set}

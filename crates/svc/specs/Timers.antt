@@ -1,14 +1,12 @@
 -- The calls on timers of svc.rs. Each of the three that name a timer first fires what came due.
-use mathlib.Core.Bool.{Bool, true, false}
+use mathlib.Core.Bool.{false}
 use Prim.Native.Nat.{ℕ}
 use Rattle.laws.specs.Logic.{pick}
 use Rattle.units.specs.Ticks.{nanosToTicks}
-use Rattle.types.specs.declared.thread.TickOption.{TickOption}
 use Rattle.types.specs.declared.thread.TickOption.the-variants.{NoTick, SomeTick}
 use Rattle.types.specs.declared.sync.Timer as ti
 use Rattle.types.specs.declared.object.KObject.{KObject}
 use Rattle.types.specs.declared.object.KObject.the-variants.{Free, Thread, Event, Mutex, Semaphore, Timer, AddressArbiter, Process, ResourceLimit}
-use Rattle.types.specs.declared.object.ObjectStore.{ObjectStore}
 use Rattle.types.specs.declared.kernel.Kernel.{Kernel}
 use Rattle.types.specs.Sync.{resetFromRaw}
 use Rattle.sound.specs.View.{objectAt}

@@ -1,5 +1,5 @@
 -- `wait_synchronization1` and `wait_synchronization_n` of svc.rs. Each first fires what came due.
-use mathlib.Core.Bool.{Bool, true, false, not}
+use mathlib.Core.Bool.{Bool, false, not}
 use mathlib.Core.List.{List, [], _∷_}
 use Prim.Native.Nat.{ℕ}
 use lib.Dec.{eqb}
