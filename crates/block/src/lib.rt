@@ -24,7 +24,7 @@ pub struct Head {
     pub d: Four,
 }
 
-fn head_words(k: Kernel) -> Head
+pub fn head_words(k: Kernel) -> Head
     ensures { λ r. ⌜ r ≡ headWords k ⌝ }
 {
     let current = k.current_thread;
@@ -88,7 +88,7 @@ pub fn encode(b: &mut [u8], k: Kernel)
     codec::put_zeros(b, 13312, 3072);
 }
 
-fn get_head(b: &[u8]) -> Head
+pub fn get_head(b: &[u8]) -> Head
     requires { ⌜ length (now b) ≡ 16384 ⌝ }
     ensures { λ r. ⌜ r ≡ headAt (now (b .entry)) ⌝ }
 {

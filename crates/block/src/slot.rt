@@ -73,7 +73,7 @@ fn timer_words(t: Timer) -> ObjectWords
     }
 }
 
-fn object_words(o: KObject) -> ObjectWords
+pub fn object_words(o: KObject) -> ObjectWords
     ensures { λ r. ⌜ r ≡ objectWords o ⌝ }
 {
     match o {
@@ -165,7 +165,7 @@ fn timer_of(w: ObjectWords) -> Timer
 }
 
 // An unknown kind reads as a dead slot, and question 2 refuses it.
-fn object_of(w: ObjectWords) -> KObject
+pub fn object_of(w: ObjectWords) -> KObject
     ensures { λ r. ⌜ r ≡ objectOf w ⌝ }
 {
     let kind = w.kind;
@@ -185,7 +185,7 @@ fn object_of(w: ObjectWords) -> KObject
     }
 }
 
-fn get_slot(s: &[u8]) -> Slot
+pub fn get_slot(s: &[u8]) -> Slot
     requires { ⌜ length (now s) ≡ 40 ⌝ }
     ensures { λ r. ⌜ r ≡ decSlot (now (s .entry)) ⌝ }
 {

@@ -11,7 +11,7 @@ ghost use Rattle.codec.specs.Bytes.{over};
 ghost use Rattle.codec.specs.Layout.{encAll, decAll};
 ghost use Rattle.block.specs.Table.{encEntry, decEntry, encWaiter, decWaiter, encId, decId};
 
-fn get_entry(s: &[u8]) -> HandleEntry
+pub fn get_entry(s: &[u8]) -> HandleEntry
     requires { ⌜ length (now s) ≡ 8 ⌝ }
     ensures { λ r. ⌜ r ≡ decEntry (now (s .entry)) ⌝ }
 {
@@ -31,7 +31,7 @@ fn put_entry(b: &mut [u8], x: HandleEntry)
     codec::put_two(b, 0, Two(h.0, o.0));
 }
 
-fn get_waiter(s: &[u8]) -> Waiter
+pub fn get_waiter(s: &[u8]) -> Waiter
     requires { ⌜ length (now s) ≡ 12 ⌝ }
     ensures { λ r. ⌜ r ≡ decWaiter (now (s .entry)) ⌝ }
 {
@@ -51,7 +51,7 @@ fn put_waiter(b: &mut [u8], x: Waiter)
     codec::put32(b, 8, x.next);
 }
 
-fn get_id(s: &[u8]) -> ObjectId
+pub fn get_id(s: &[u8]) -> ObjectId
     requires { ⌜ length (now s) ≡ 4 ⌝ }
     ensures { λ r. ⌜ r ≡ decId (now (s .entry)) ⌝ }
 {

@@ -60,7 +60,7 @@ pub fn thread_words(x: Thread) -> ThreadWords
     }
 }
 
-fn thread_of(w: ThreadWords, l: [ObjectId; 8]) -> Thread
+pub fn thread_of(w: ThreadWords, l: [ObjectId; 8]) -> Thread
     ensures { λ r. ⌜ r ≡ threadOf (wordsList w) l ⌝ }
 {
     let a = w.a;
@@ -92,7 +92,7 @@ fn thread_of(w: ThreadWords, l: [ObjectId; 8]) -> Thread
     }
 }
 
-fn get_thread(s: &[u8]) -> Thread
+pub fn get_thread(s: &[u8]) -> Thread
     requires { ⌜ length (now s) ≡ 160 ⌝ }
     ensures { λ r. ⌜ r ≡ decThread (now (s .entry)) ⌝ }
 {
