@@ -2,7 +2,7 @@
 ghost use mathlib.Core.Path.{_≡_};
 ghost use mathlib.Core.List.{[], _∷_, _++_};
 ghost use Prim.Native.Nat.{ℕ, _+_, _*_, _<_, _≤_, _/_, _%_};
-ghost use lib.ListN.{length, replicate};
+ghost use lib.ListN.{length, replicate, take, drop};
 ghost use Rattle.codec.specs.Bytes.{le, num, over, bytes, same};
 ghost use Rattle.codec.specs.Layout.{decAll, encAll};
 ghost use Rattle.codec.specs.Groups.{twoAt, twoBytes, fourAt, fourBytes};
@@ -201,6 +201,22 @@ pub fn same_words(a: &[u8], b: &[u8], n: usize) -> bool
     let mut i: usize = 0;
     while i < n {
         if get32(a, i * 4) != get32(b, i * 4) {
+            alike = false;
+        }
+        i += 1;
+    }
+    alike
+}
+
+// Whether the n words from at are all zero. No early end, as above.
+pub fn zero_words(s: &[u8], at: usize, n: usize) -> bool
+    requires { ⌜ at + n * 4 ≤ length (now s) ⌝ }
+    ensures { λ r. ⌜ r ≡ same (take (n * 4) (drop at (now (s .entry)))) (replicate (n * 4) 0) ⌝ }
+{
+    let mut alike = true;
+    let mut i: usize = 0;
+    while i < n {
+        if get32(s, at + i * 4) != 0 {
             alike = false;
         }
         i += 1;

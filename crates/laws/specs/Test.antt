@@ -35,6 +35,12 @@ t-lt m n = record { yes = ltb-true m n; has = lt-ltb m n }
 pub t-as : {b : Bool} {P Q : Type 0} → (P → Q) → (Q → P) → Test b P → Test b Q
 t-as f g t = record { yes = λ e. f (t .yes e); has = λ q. t .has (g q) }
 
+-- two tests of one fact
+pub t-same : (a b : Bool) {P : Type 0} → Test a P → Test b P → a ≡ b
+t-same true b s t = sym (t .has (s .yes refl))
+t-same false true s t = s .has (t .yes refl)
+t-same false false s t = refl
+
 pub t-and : {a b : Bool} {P Q : Type 0} → Test a P → Test b Q → Test (a and b) (P × Q)
 t-and p q = record { yes = λ e. (p .yes (and-true _ _ e .0), q .yes (and-true _ _ e .1)); has = λ h. true-and _ _ (p .has (h .0)) (q .has (h .1)) }
 
