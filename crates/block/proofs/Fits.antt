@@ -67,7 +67,7 @@ entryList x = x .handle .0 ∷ x .object .0 ∷ []
 abbrev pub EntryFits : HandleEntry → Type 0
 EntryFits x = Fit entryW (entryList x)
 
-entry-as : (x : HandleEntry) → encEntry x ≡ encAs entryW (entryList x) ++ []
+pub entry-as : (x : HandleEntry) → encEntry x ≡ encAs entryW (entryList x) ++ []
 unfolding encEntry encAs
 entry-as x = simp (append-assoc, append-nil)
 
@@ -94,7 +94,7 @@ waiterList x = x .thread ∷ x .address ∷ x .next ∷ []
 abbrev pub WaiterFits : Waiter → Type 0
 WaiterFits x = Fit waiterW (waiterList x)
 
-waiter-as : (x : Waiter) → encWaiter x ≡ encAs waiterW (waiterList x) ++ []
+pub waiter-as : (x : Waiter) → encWaiter x ≡ encAs waiterW (waiterList x) ++ []
 unfolding encWaiter encAs
 waiter-as x = simp (append-assoc, append-nil)
 
@@ -115,7 +115,7 @@ waiter-bytes x = rw (waiter-as x, append-nil) (bytes-encAs waiterW (waiterList x
 abbrev pub SlotFits : Slot → Type 0
 SlotFits x = Fit slotW (slotFields x)
 
-slot-as : (x : Slot) → encSlot x ≡ encAs slotW (slotFields x) ++ []
+pub slot-as : (x : Slot) → encSlot x ≡ encAs slotW (slotFields x) ++ []
 unfolding encSlot encAs
 slot-as x = simp (append-assoc, append-nil)
 
@@ -140,7 +140,7 @@ slot-bytes x = rw (slot-as x, append-nil) (bytes-encAs slotW (slotFields x))
 abbrev pub ThreadFits : Thread → Type 0
 ThreadFits x = Fit threadW (wordsList (threadWords x)) × All IdFits (x .«wait_objects») × (length (x .«wait_objects») ≡ 8)
 
-words-as : (w : ThreadWords) → encWords w ≡ encAs threadW (wordsList w)
+pub words-as : (w : ThreadWords) → encWords w ≡ encAs threadW (wordsList w)
 unfolding encWords encAs
 words-as w = simp (append-assoc, append-nil)
 
@@ -164,7 +164,7 @@ thread-again x = λ i. record {
   «guest_id» = x .«guest_id»;
 }
 
-thread-as : (x : Thread) → length (x .«wait_objects») ≡ 8
+pub thread-as : (x : Thread) → length (x .«wait_objects») ≡ 8
     → encThread x ≡ encAs threadW (wordsList (threadWords x)) ++ (encAll encId (x .«wait_objects») ++ replicate 48 0)
 unfolding encThread
 thread-as x e = λ i. words-as (threadWords x) i ++ (sym (encIds-all 8 (x .«wait_objects») e) i ++ replicate 48 0)
@@ -236,7 +236,7 @@ pub record StateFits (k : Kernel) : Type 0 where
   pub «thread_objects» : All IdFits (k .objects .«thread_objects»)
   pub clean : Clean k
 
-head-as : (h : Head) → encHead h ≡ encAs headW (headList h) ++ replicate 64 0
+pub head-as : (h : Head) → encHead h ≡ encAs headW (headList h) ++ replicate 64 0
 unfolding encHead encAs
 head-as h = simp (append-assoc, append-nil)
 

@@ -74,9 +74,12 @@ slotList w r p = w .kind ∷ r ∷ p ∷ w .a ∷ w .b ∷ w .c ∷ w .x ∷ w .
 abbrev pub slotFields : Slot → List ℕ
 slotFields x = slotList (objectWords (x .object)) (x .refcount) (boolByte (x .pulsed))
 
+abbrev pub slotWords : List ℕ → ObjectWords
+slotWords vs = words (getD vs 0 0) (getD vs 3 0) (getD vs 4 0) (getD vs 5 0) (getD vs 6 0) (getD vs 7 0)
+
 abbrev pub slotOf : List ℕ → Slot
 slotOf vs = record {
-  object = objectOf (words (getD vs 0 0) (getD vs 3 0) (getD vs 4 0) (getD vs 5 0) (getD vs 6 0) (getD vs 7 0));
+  object = objectOf (slotWords vs);
   refcount = getD vs 1 0;
   pulsed = eqb (getD vs 2 0) 1;
 }

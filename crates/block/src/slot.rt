@@ -16,8 +16,8 @@ ghost use mathlib.Core.Path.{_≡_};
 ghost use Prim.Native.Nat.{ℕ, _+_, _≤_};
 ghost use lib.ListN.{length};
 ghost use Rattle.codec.specs.Bytes.{over};
-ghost use Rattle.codec.specs.Layout.{encAll, decAll};
-ghost use Rattle.block.specs.Slot.{eventWords, mutexWords, timerWords, eventOf, mutexOf, timerOf, objectWords, objectOf, encSlot, decSlot};
+ghost use Rattle.codec.specs.Layout.{decAs, encAll, decAll};
+ghost use Rattle.block.specs.Slot.{eventWords, mutexWords, timerWords, eventOf, mutexOf, timerOf, objectWords, objectOf, slotW, slotWords, encSlot, decSlot};
 
 // An object as numbers, in the order of the block.
 pub struct ObjectWords {
@@ -185,24 +185,33 @@ pub fn object_of(w: ObjectWords) -> KObject
     }
 }
 
-pub fn get_slot(s: &[u8]) -> Slot
+// The numbers of the object in a slot.
+pub fn get_words(s: &[u8]) -> ObjectWords
     requires { ⌜ length (now s) ≡ 40 ⌝ }
-    ensures { λ r. ⌜ r ≡ decSlot (now (s .entry)) ⌝ }
+    ensures { λ r. ⌜ r ≡ slotWords (decAs slotW (now (s .entry)) 0) ⌝ }
 {
     let f = codec::get_four(s, 0);
     let t = codec::get_two(s, 16);
-    let o = object_of(ObjectWords {
+    ObjectWords {
         kind: f.0,
         a: f.3,
         b: t.0,
         c: t.1,
         x: codec::get64(s, 24),
         y: codec::get64(s, 32),
-    });
+    }
+}
+
+pub fn get_slot(s: &[u8]) -> Slot
+    requires { ⌜ length (now s) ≡ 40 ⌝ }
+    ensures { λ r. ⌜ r ≡ decSlot (now (s .entry)) ⌝ }
+{
+    let t = codec::get_two(s, 4);
+    let o = object_of(get_words(s));
     Slot {
         object: o,
-        refcount: f.1,
-        pulsed: f.2 == 1,
+        refcount: t.0,
+        pulsed: t.1 == 1,
     }
 }
 

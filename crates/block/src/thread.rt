@@ -13,8 +13,8 @@ ghost use mathlib.Core.Path.{_≡_};
 ghost use Prim.Native.Nat.{ℕ, _+_, _≤_};
 ghost use lib.ListN.{length};
 ghost use Rattle.codec.specs.Bytes.{over};
-ghost use Rattle.codec.specs.Layout.{encAll, decAll};
-ghost use Rattle.block.specs.Thread.{threadWords, threadOf, encWords, encThread, decThread, wordsList};
+ghost use Rattle.codec.specs.Layout.{decAs, encAll, decAll};
+ghost use Rattle.block.specs.Thread.{threadWords, threadOf, threadW, encWords, encThread, decThread, wordsList};
 
 // A thread's fields but its list, as numbers in the order of the block.
 pub struct ThreadWords {
@@ -92,20 +92,26 @@ pub fn thread_of(w: ThreadWords, l: [ObjectId; 8]) -> Thread
     }
 }
 
-pub fn get_thread(s: &[u8]) -> Thread
+pub fn get_words(s: &[u8]) -> ThreadWords
     requires { ⌜ length (now s) ≡ 160 ⌝ }
-    ensures { λ r. ⌜ r ≡ decThread (now (s .entry)) ⌝ }
+    ensures { λ r. ⌜ wordsList r ≡ decAs threadW (now (s .entry)) 0 ⌝ }
 {
-    let l = table::get_ids8(s, 80);
-    let w = ThreadWords {
+    ThreadWords {
         a: codec::get_four(s, 0),
         b: codec::get_four(s, 16),
         c: codec::get_four(s, 32),
         d: codec::get_four(s, 48),
         wakeup_at: codec::get64(s, 64),
         running_since: codec::get64(s, 72),
-    };
-    thread_of(w, l)
+    }
+}
+
+pub fn get_thread(s: &[u8]) -> Thread
+    requires { ⌜ length (now s) ≡ 160 ⌝ }
+    ensures { λ r. ⌜ r ≡ decThread (now (s .entry)) ⌝ }
+{
+    let l = table::get_ids8(s, 80);
+    thread_of(get_words(s), l)
 }
 
 fn put_words(b: &mut [u8], w: ThreadWords)
