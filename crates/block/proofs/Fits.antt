@@ -140,7 +140,7 @@ slot-bytes x = rw (slot-as x, append-nil) (bytes-encAs slotW (slotFields x))
 abbrev pub ThreadFits : Thread → Type 0
 ThreadFits x = Fit threadW (wordsList (threadWords x)) × All IdFits (x .«wait_objects») × (length (x .«wait_objects») ≡ 8)
 
-pub words-as : (w : ThreadWords) → encWords w ≡ encAs threadW (wordsList w)
+words-as : (w : ThreadWords) → encWords w ≡ encAs threadW (wordsList w)
 unfolding encWords encAs
 words-as w = simp (append-assoc, append-nil)
 
@@ -236,7 +236,7 @@ pub record StateFits (k : Kernel) : Type 0 where
   pub «thread_objects» : All IdFits (k .objects .«thread_objects»)
   pub clean : Clean k
 
-pub head-as : (h : Head) → encHead h ≡ encAs headW (headList h) ++ replicate 64 0
+head-as : (h : Head) → encHead h ≡ encAs headW (headList h) ++ replicate 64 0
 unfolding encHead encAs
 head-as h = simp (append-assoc, append-nil)
 

@@ -3,13 +3,13 @@ use mathlib.Core.Path.{_≡_, refl, ap, sym, _∙_}
 use mathlib.Core.Bool.{Bool, true, false}
 use mathlib.Core.Logic.{_≢_}
 use mathlib.Core.List.{List, [], _∷_, _++_}
-use Prim.Native.Nat.{ℕ, zero, suc, _+_, _≤_, _<_}
+use Prim.Native.Nat.{ℕ, zero, suc, _+_, _≤_}
 use native.Mathlib.Nat.{add-zero}
 use native.Mathlib.Omega.{arith}
 use lib.Dec.{eqb}
-use lib.ListN.{length, take, drop, getD, replicate, length-drop, take-append-drop}
+use lib.ListN.{length, take, drop, replicate, length-drop, take-append-drop}
 use lib.Seq.{length-take-le, drop-drop, take-take}
-use borrow.Author.Tests.{eqb-true, eq-eqb, ne-eqb}
+use borrow.Author.Tests.{eqb-true, eq-eqb}
 use Rattle.laws.specs.Logic.{_and_, and-true, true-and, and-no, and-yes, and-assoc, false-true}
 use Rattle.laws.specs.Test.{Test, t-as, t-same}
 use Rattle.codec.specs.Bytes.{num, bytes, le, same}

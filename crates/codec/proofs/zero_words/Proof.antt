@@ -1,5 +1,5 @@
 -- The words passed are zero exactly if `alike`; a turn compares one word more.
-use Prim.Native.Nat.{ℕ, _≤_, _<_, _-_, _+_, _*_}
+use Prim.Native.Nat.{ℕ, _≤_, _-_, _+_, _*_}
 use mathlib.Core.Path.{_≡_, refl, sym, _∙_}
 use mathlib.Core.Bool.{true, false}
 use mathlib.Core.Logic.{⊎-elim}
