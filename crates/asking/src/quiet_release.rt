@@ -60,7 +60,7 @@ pub fn operate(block: &[u8], answer: &mut [u8], handle: u32, tick: u64) -> u32
         return 1;
     }
     let k = block::decode(block);
-    if !questions::block_ok(block, k) {
+    if !questions::block_ok(block) {
         return 2;
     }
     let h = k.handles;

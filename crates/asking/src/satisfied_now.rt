@@ -54,7 +54,7 @@ pub fn operate(block: &[u8], handles: &[u8], answer: &mut [u8], wait_all: u32, t
         return 1;
     }
     let k = block::decode(block);
-    if !questions::block_ok(block, k) {
+    if !questions::block_ok(block) {
         return 2;
     }
     let h = k.handles;

@@ -4,3 +4,4 @@ pub mod Thread
 pub mod Slot
 pub mod Block
 pub mod Context
+pub mod Tables

@@ -9,13 +9,11 @@ use lib.ListN.{length, take, drop, length-drop, List·getD-eq-default}
 use lib.Seq.{length-take-le}
 use borrow.Author.Tests.{eq-eqb, ne-eqb, leb-false}
 use Rattle.laws.specs.Logic.{pick, _and_, _or_, or-false}
-use Rattle.codec.specs.Bytes.{same}
 use Rattle.types.specs.declared.thread.Thread.{Thread}
 use Rattle.types.specs.declared.kernel.Kernel.{Kernel}
 use Rattle.types.specs.Thread.{isDead}
-use Rattle.block.specs.Block.{encBlock, decBlock}
+use Rattle.block.specs.Block.{decBlock}
 use Rattle.sound.specs.View.{noThread, threadAt}
-use Rattle.sound.specs.Sound.{state?}
 use Rattle.sound.specs.Question.{sound?}
 use Rattle.thread.specs.Threads.{createThread, endedThread}
 use Rattle.lent.specs.Lent.{Lent, withAnswer, Back, back}
@@ -26,23 +24,20 @@ module _ (lengths : Bool) (look : Kernel → List ℕ) (l : Lent) where
   unfolding inspect
   inspect-1 e = rw e
 
-  module _ (e : lengths ≡ true) (k : Kernel) (f : k ≡ decBlock (l .block)) (r : Bool) (g : r ≡ (same (l .block) (encBlock k) and state? k)) where
-    sound-is : sound? (l .block) ≡ r
-    unfolding sound?
-    sound-is = rw (← f) (sym g)
+  module _ (e : lengths ≡ true) (k : Kernel) (f : k ≡ decBlock (l .block)) (r : Bool) (g : r ≡ sound? (l .block)) where
 
     pub inspect-2 : r ≡ false → back 2 l ≡ inspect lengths look l
     unfolding inspect
-    inspect-2 h = rw (e, sound-is, h)
+    inspect-2 h = rw (e, ← g, h)
 
     module _ (h : r ≡ true) (t : Bool) (q : t ≡ outOfHandles? k) where
       pub inspect-8 : t ≡ true → back 8 l ≡ inspect lengths look l
       unfolding inspect
-      inspect-8 z = rw (e, sound-is, h, ← f, ← q, z)
+      inspect-8 z = rw (e, ← g, h, ← f, ← q, z)
 
       pub inspect-0 : t ≡ false → back 0 (withAnswer l (look k)) ≡ inspect lengths look l
       unfolding inspect
-      inspect-0 z = rw (e, sound-is, h, ← f, ← q, z)
+      inspect-0 z = rw (e, ← g, h, ← f, ← q, z)
 
 -- ---- an operation that changes the block
 module _ (lengths : Bool) (refusal : Kernel → ℕ) (work : Kernel → Kernel) (result : Kernel → Back) (l : Lent) where
@@ -50,28 +45,25 @@ module _ (lengths : Bool) (refusal : Kernel → ℕ) (work : Kernel → Kernel) 
   unfolding change
   change-1 e = rw e
 
-  module _ (e : lengths ≡ true) (k : Kernel) (f : k ≡ decBlock (l .block)) (r : Bool) (g : r ≡ (same (l .block) (encBlock k) and state? k)) where
-    asked : sound? (l .block) ≡ r
-    unfolding sound?
-    asked = rw (← f) (sym g)
+  module _ (e : lengths ≡ true) (k : Kernel) (f : k ≡ decBlock (l .block)) (r : Bool) (g : r ≡ sound? (l .block)) where
 
     pub change-2 : r ≡ false → back 2 l ≡ change lengths refusal work result l
     unfolding change
-    change-2 h = rw (e, asked, h)
+    change-2 h = rw (e, ← g, h)
 
     module _ (h : r ≡ true) (n : ℕ) (q : n ≡ refusal k) where
       pub change-own : (n ≡ 0 → ⊥) → back n l ≡ change lengths refusal work result l
       unfolding change
-      change-own z = rw (e, asked, h, ← f, ← q, ne-eqb n 0 z)
+      change-own z = rw (e, ← g, h, ← f, ← q, ne-eqb n 0 z)
 
       module _ (z : n ≡ 0) (m : ℕ) (v : m ≡ finding (work k)) where
         pub change-found : (m ≡ 0 → ⊥) → back m l ≡ change lengths refusal work result l
         unfolding change
-        change-found w = rw (e, asked, h, ← f, ← q, eq-eqb n 0 z, ← v, ne-eqb m 0 w)
+        change-found w = rw (e, ← g, h, ← f, ← q, eq-eqb n 0 z, ← v, ne-eqb m 0 w)
 
         pub change-0 : m ≡ 0 → result k ≡ change lengths refusal work result l
         unfolding change
-        change-0 w = rw (e, asked, h, ← f, ← q, eq-eqb n 0 z, ← v, eq-eqb m 0 w)
+        change-0 w = rw (e, ← g, h, ← f, ← q, eq-eqb n 0 z, ← v, eq-eqb m 0 w)
 
 -- a number past the places reads as a Dead thread
 pub dead-far : (ts : List Thread) (t : ℕ) → length ts ≤ t → isDead (threadAt ts t .status) ≡ true

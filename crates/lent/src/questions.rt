@@ -4,23 +4,18 @@ use units::Handle;
 ghost use mathlib.Core.Path.{_≡_};
 ghost use lib.Dec.{ltb};
 ghost use lib.ListN.{length};
-ghost use Rattle.laws.specs.Logic.{_and_};
-ghost use Rattle.codec.specs.Bytes.{same};
-ghost use Rattle.block.specs.Block.{encBlock};
-ghost use Rattle.sound.specs.Sound.{state?};
+ghost use Rattle.sound.specs.Question.{sound?};
 ghost use Rattle.lent.specs.Operations.{finding};
 
-// Question 2, on a block and what it decodes to.
-pub fn block_ok(b: &[u8], k: Kernel) -> bool
+// Question 2: the block is the encoding of what it decodes to, and that is a sound state.
+pub fn block_ok(b: &[u8]) -> bool
     requires { ⌜ length (now b) ≡ 16384 ⌝ }
-    ensures { λ r. ⌜ r ≡ (same (now (b .entry)) (encBlock k) and state? k) ⌝ }
+    ensures { λ r. ⌜ r ≡ sound? (now (b .entry)) ⌝ }
 {
-    let mut again = [0u8; 16384];
-    block::encode(&mut again, k);
-    if !codec::same_words(b, &again, 4096) {
+    if !canonical::canonical(b) {
         return false;
     }
-    question::state_ok(k)
+    question::state_ok(b)
 }
 
 // The next handle is past the last that question 8 allows.

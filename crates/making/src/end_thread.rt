@@ -43,7 +43,7 @@ pub fn operate(block: &mut [u8], id: u32) -> u32
         return 1;
     }
     let k = block::decode(block);
-    if !questions::block_ok(block, k) {
+    if !questions::block_ok(block) {
         return 2;
     }
     let refusal = end_refusal(id, k);

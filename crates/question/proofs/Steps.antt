@@ -7,10 +7,11 @@ use Prim.Native.Nat.{ℕ, zero, suc, _+_, _-_, _≤_, _<_}
 use native.Mathlib.Numerals.{add-one}
 use native.Mathlib.Omega.{arith}
 use lib.Dec.{eqb, leb, ltb}
-use borrow.Author.Tests.{leb-true, leb-false, ltb-true, ltb-false}
+use borrow.Author.Tests.{leb-true, leb-false, ltb-true, ltb-false, ne-eqb}
 use lib.ListN.{length, getD, drop, drop-of-length-le}
 use lib.Seq.{drop-cons}
-use Rattle.laws.specs.Logic.{pick, _and_, and-end, and-swap, and-assoc}
+use Rattle.laws.specs.Logic.{pick, pick-no, _and_, and-true, and-end, and-false, and-assoc}
+use Rattle.laws.specs.Tally.{bump, tally}
 use Rattle.units.specs.declared.ObjectId.{ObjectId}
 use Rattle.types.specs.declared.thread.Thread.{Thread}
 use Rattle.types.specs.declared.thread.ThreadOption.{ThreadOption}
@@ -22,7 +23,7 @@ use Rattle.sound.specs.View.{ids, noThread}
 use Rattle.sound.specs.Threads.{places?, zeros?, isCurrent, run?}
 use Rattle.sound.specs.Tls.{heldIf, held, held-step, below?}
 use Rattle.sound.specs.Handles.{rising?, noEntries?}
-use Rattle.tally.specs.Lists.{slotOf}
+use Rattle.tally.specs.Lists.{slotOf, nameOf, handleNames}
 use Rattle.question.specs.Linear.{onePlace?, runs?, entry?}
 
 -- ---- a wait list
@@ -72,36 +73,39 @@ pub two-zeros : (a b : ℕ) → zeros? (a ∷ b ∷ []) ≡ eqb a 0 and eqb b 0
 unfolding zeros?
 two-zeros a b = ap (λ t. eqb a 0 and t) (and-end (eqb b 0))
 
-module _ (es : List HandleEntry) (n i low next : ℕ) (d : HandleEntry) (h : i < length es) where
-  rising-as : (t : Bool) → ltb i n ≡ t
-      → rising? (n - i) low (drop i es) next ≡ entry? t low (getD es i d) next and rising? (n - (i + 1)) (pick t (suc (getD es i d .handle .0)) low) (drop (i + 1) es) next
-  unfolding rising? entry? noEntries?
-  rising-as true e =
-      let q = ltb-true i n e in
-      let f : n - i ≡ suc (n - (i + 1)) = omega arith in
-      rw (f, drop-cons es i d h) (rw add-one (and-four _ _ _ _ _))
-  rising-as false e =
-      let q = ltb-false i n e in
-      let f : n - i ≡ 0 = omega arith in
-      let g : n - (i + 1) ≡ 0 = omega arith in
-      rw (f, g, drop-cons es i d h, add-one) (ap (λ x. leb low next and x) (and-assoc _ _ _) ∙ and-swap _ _ _)
+pub rising-step : (es : List HandleEntry) (n i low next : ℕ) (d : HandleEntry) → i < length es → i < n
+    → rising? (n - i) low (drop i es) next ≡ entry? low (getD es i d) next and rising? (n - (i + 1)) (getD es i d .handle .0 + 1) (drop (i + 1) es) next
+unfolding rising? entry?
+rising-step es n i low next d h q =
+    let f : n - i ≡ suc (n - (i + 1)) = omega arith in
+    rw (f, drop-cons es i d h, add-one i, add-one (getD es i d .handle .0)) (and-four _ _ _ _ _)
 
-  pub rising-step : rising? (n - i) low (drop i es) next
-      ≡ entry? (ltb i n) low (getD es i d) next and rising? (n - (i + 1)) (pick (ltb i n) (suc (getD es i d .handle .0)) low) (drop (i + 1) es) next
-  rising-step = rising-as (ltb i n) refl
-
-rising-none : (k low next : ℕ) → k ≢ 0 → rising? k low [] next ≡ false
+pub rising-end : (es : List HandleEntry) (n i low next : ℕ) → n ≤ i → rising? (n - i) low es next ≡ leb low next and noEntries? es
 unfolding rising?
-rising-none zero low next p = absurd (p refl)
-rising-none (suc k) low next p = refl
+rising-end es n i low next h = let e : n - i ≡ 0 = omega arith in rw e
 
-rising-end-as : (n low next : ℕ) (t : Bool) → leb n 256 ≡ t → rising? (n - 256) low [] next ≡ t and leb low next
-unfolding rising? noEntries? _and_
-rising-end-as n low next true e = let f : n - 256 ≡ 0 = omega (arith, leb-true n 256 e) in rw f (and-end (leb low next))
-rising-end-as n low next false e = rising-none (n - 256) low next (omega (arith, leb-false n 256 e))
+-- more handles than entries
+pub rising-far : (n low next : ℕ) (es : List HandleEntry) → length es < n → rising? n low es next ≡ false
+unfolding rising?
+rising-far zero low next es h = absurd (omega arith)
+rising-far (suc n) low next [] h = refl
+rising-far (suc n) low next (e ∷ es) h = rw (rising-far n (suc (e .handle .0)) next es (omega arith), and-false, and-false, and-false, and-false)
 
-pub rising-end : (es : List HandleEntry) (n low next : ℕ) → length es ≤ 256 → rising? (n - 256) low (drop 256 es) next ≡ leb n 256 and leb low next
-rising-end es n low next h = rw (drop-of-length-le es h) (rising-end-as n low next (leb n 256) refl)
+-- an entry in use names an object
+pub entry-names : (low next : ℕ) (e : HandleEntry) → entry? low e next ≡ true → nameOf (e .object .0) ≡ e .object .0
+unfolding entry?
+entry-names low next e h =
+    let o = ltb-true 0 (e .object .0) (and-true _ _ (and-true _ _ (and-true _ _ h .1) .1) .0) in
+    pick-no (eqb (e .object .0) 0) 129 (e .object .0) (ne-eqb (e .object .0) 0 (omega (arith, o)))
+
+-- entries that are zero name nothing
+pub none-tally : (c : List ℕ) (es : List HandleEntry) → noEntries? es ≡ true → tally 129 c (handleNames es) ≡ c
+unfolding noEntries? tally bump
+none-tally c [] h = refl
+none-tally c (e ∷ es) h =
+    let a = and-true _ _ h in
+    let b = and-true _ _ (a .1) in
+    rw (b .0) (none-tally c es (b .1))
 
 -- ---- TLS slots
 below-if : (n : ℕ) (b : Bool) (s : ℕ) (l : List ℕ) → below? n (heldIf b s l) ≡ below? n (heldIf b s []) and below? n l

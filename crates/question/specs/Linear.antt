@@ -40,9 +40,8 @@ unfoldable pub once32? : List ℕ → Bool
 once32? m = allBelow 32 (λ s. leb (getD m s 0) 1)
 
 -- ---- handles
-unfoldable pub entry? : Bool → ℕ → HandleEntry → ℕ → Bool
-entry? true low e next = leb low (e .handle .0) and (ltb (e .handle .0) next and (ltb 0 (e .object .0) and leb (e .object .0) 128))
-entry? false low e next = eqb (e .handle .0) 0 and eqb (e .object .0) 0
+unfoldable pub entry? : ℕ → HandleEntry → ℕ → Bool
+entry? low e next = leb low (e .handle .0) and (ltb (e .handle .0) next and (ltb 0 (e .object .0) and leb (e .object .0) 128))
 
 -- ---- a slot of kind number k and count r that is named n times and stands f times on the free chain
 unfoldable pub slot? : ℕ → ℕ → ℕ → ℕ → Bool

@@ -19,8 +19,12 @@ use Rattle.types.specs.declared.object.KObject.the-variants.{Free, Thread, Even
 use Rattle.types.specs.declared.object.Slot.{Slot}
 use Rattle.types.specs.declared.object.Waiter.{Waiter}
 use Rattle.types.specs.declared.object.HandleEntry.{HandleEntry}
+use Rattle.types.specs.declared.kernel.Kernel.{Kernel}
 use Rattle.types.specs.Thread.{isDead}
-use Rattle.sound.specs.View.{waiterNexts, waiterThreads, waiterAddresses, slotAt}
+use Rattle.sound.specs.View.{kinds, refs, nexts, heads, ids, waiterNexts, waiterThreads, waiterAddresses, slotAt}
+use Rattle.sound.specs.Threads.{threads?}
+use Rattle.sound.specs.Tls.{tls?}
+use Rattle.sound.specs.Handles.{rising?}
 use Rattle.sound.specs.Objects.{upTo128}
 use Rattle.sound.specs.Records.{chain?, blanks?}
 use Rattle.tally.specs.Lists.{names, handleNames, listNames}
@@ -125,3 +129,16 @@ recordsBy? n hs w free =
     sharedOut? (waiterNexts w) hs free
     and (chainsBy? (waiterNexts w) (waiterThreads w) (waiterAddresses w) n hs 128
     and blanks? (waiterThreads w) (waiterAddresses w) (walk (waiterNexts w) 64 free))
+
+-- ---- the clauses in two parts: threads, TLS slots and handles; objects, by the counts c of their names, and records
+unfoldable pub tables? : Kernel → Bool
+tables? k =
+    rising? (k .handles .count) 0x10000 (k .handles .entries) (k .handles .next .0)
+    and (threads? (k .«thread_count») (k .«current_thread») (k .threads) and tls? (k .threads) (k .«next_tls_slot»))
+
+unfoldable pub store? : Kernel → List ℕ → Bool
+store? k c =
+    let l = k .objects .slots in
+    objectsBy? (kinds l) (refs l) (nexts l) (named l) (k .objects .free) c (ids (k .objects .«thread_objects»)) (k .objects .«process_object» .0)
+    and (contentsBy? (k .«thread_count») (deadMarks (k .threads)) l 128
+    and recordsBy? (k .«thread_count») (heads l) (k .objects .waiters) (k .objects .«free_waiter»))

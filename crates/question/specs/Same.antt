@@ -27,15 +27,18 @@ use Rattle.types.specs.declared.object.Waiter.{Waiter}
 use Rattle.types.specs.declared.object.HandleEntry.{HandleEntry}
 use Rattle.types.specs.declared.object.HandleTable.{HandleTable}
 use Rattle.types.specs.declared.object.ObjectStore.{ObjectStore}
+use Rattle.types.specs.declared.kernel.Kernel.{Kernel}
 use Rattle.types.specs.Thread.{isDead}
 use Rattle.types.specs.Object.{kindNumber, nextOf, headOf}
+use Rattle.block.proofs.Fits.{StateFits}
 use Rattle.sound.specs.View.{kinds, refs, nexts, ids, handled, lists, heads, waiterNexts, waiterThreads, waiterAddresses, noSlot, noThread, slotAt, threadAt, at-slots}
 use Rattle.sound.specs.Objects.{names, keptNames, held?, keptIn?, isThread?, isProcess?, kept?, owner?, content?, contents?}
+use Rattle.sound.specs.Sound.{state?}
 use Rattle.sound.specs.Records.{chain?, blanks?, chained?, freeChain, records?}
 use Rattle.tally.specs.Lists as list
 use Rattle.tally.specs.Lists.{Eight, nameOf, handleNames, listNames}
 use Rattle.question.specs.Linear.{slot?, slots?}
-use Rattle.question.specs.LinearObjects.{namedOf, named, countsOf, marksOf, slotIndex, keptThread?, keptProcess?, indexed, keptThreads?, keptBy?, objectsBy?, deadMark, deadMarks, live?, ownerBy?, contentBy?, contentsBy?, endAll?, walkAll, onceAll?, sharedOut?, chainsBy?, recordsBy?}
+use Rattle.question.specs.LinearObjects.{namedOf, named, countsOf, marksOf, slotIndex, keptThread?, keptProcess?, indexed, keptThreads?, keptBy?, objectsBy?, deadMark, deadMarks, live?, ownerBy?, contentBy?, contentsBy?, endAll?, walkAll, onceAll?, sharedOut?, chainsBy?, recordsBy?, tables?, store?}
 
 -- ---- a number that names no object is counted nowhere
 module _ (o : ℕ) (p : 0 < o) (q : o ≤ 128) where
@@ -266,3 +269,25 @@ records-same n s a b =
     (allTo-same 128 _ _ (λ o p q.
     ap (λ (h : ℕ). chain? (waiterThreads (s .waiters)) (waiterAddresses (s .waiters)) n (walk (waiterNexts (s .waiters)) 64 h))
     (at-slots (λ (x : Slot). headOf (x .object)) (s .slots) o refl))))
+
+-- ---- the whole
+and-parts : (a b c d e f g : Bool) → (c and (a and b)) and ((d and e) and (f and g)) ≡ a and (b and (c and (d and (e and (f and g)))))
+unfolding _and_
+and-parts true true true true e f g = refl
+and-parts true true true false e f g = refl
+and-parts true true false d e f g = refl
+and-parts true false true d e f g = refl
+and-parts true false false d e f g = refl
+and-parts false b true d e f g = refl
+and-parts false b false d e f g = refl
+
+pub state-same : (k : Kernel) → StateFits k → All Eight (k .threads)
+    → tables? k and store? k (countsOf (k .handles .entries) (k .threads) (k .objects .«thread_objects») (k .objects .«process_object» .0)) ≡ state? k
+unfolding tables? store? state?
+state-same k f a =
+    rw (
+      objects-same (k .objects) (k .handles) (k .threads) (f .ns) (f .ne) (f .nt) a (f .ni),
+      contents-same (k .«thread_count») (k .threads) (k .objects),
+      records-same (k .«thread_count») (k .objects) (f .ns) (f .nw),
+    )
+    (and-parts _ _ _ _ _ _ _)

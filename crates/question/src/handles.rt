@@ -1,71 +1,61 @@
 // The handle table.
 use types::object::HandleEntry;
 ghost use mathlib.Core.Path.{_≡_};
-ghost use Prim.Native.Nat.{_+_, _-_, _<_, _≤_, suc};
-ghost use lib.Dec.{leb};
+ghost use mathlib.Core.Bool.{true};
+ghost use Prim.Native.Nat.{_+_, _-_, _*_, _<_, _≤_};
 ghost use lib.ListN.{length};
-ghost use Rattle.laws.specs.Logic.{pick, _and_};
+ghost use Rattle.laws.specs.Tally.{tally};
+ghost use Rattle.block.specs.Tables.{entriesIn};
+ghost use Rattle.tally.specs.Lists.{handleNames};
 ghost use Rattle.sound.specs.Handles.{rising?};
 ghost use Rattle.question.specs.Linear.{entry?};
 
-fn entry_ok(used: bool, low: u64, e: HandleEntry, next: u32) -> bool
-    ensures { λ r. ⌜ r ≡ entry? used low e next ⌝ }
+// A handle from low on, below next, of an object number.
+fn entry_ok(low: u64, e: HandleEntry, next: u32) -> bool
+    ensures { λ r. ⌜ r ≡ entry? low e next ⌝ }
 {
     let h = e.handle;
     let o = e.object;
     let x = h.0;
     let y = o.0;
-    if used {
-        if (x as u64) < low {
-            return false;
-        }
-        if next <= x {
-            return false;
-        }
-        if y == 0 {
-            return false;
-        }
-        return y <= 128;
-    }
-    if x != 0 {
+    if (x as u64) < low {
         return false;
     }
-    y == 0
-}
-
-fn low_after(used: bool, low: u64, e: HandleEntry) -> u64
-    ensures { λ r. ⌜ r ≡ pick used (suc (e .handle .0)) low ⌝ }
-{
-    if used {
-        let h = e.handle;
-        return h.0 as u64 + 1;
-    }
-    low
-}
-
-fn end_ok(n: usize, low: u64, next: u32) -> bool
-    ensures { λ r. ⌜ r ≡ (leb n 256 and leb low next) ⌝ }
-{
-    if 256 < n {
+    if next <= x {
         return false;
     }
-    low <= next as u64
+    if y == 0 {
+        return false;
+    }
+    y <= 128
 }
 
-// count handles in rising order from 0x10000, below next, each of an object number.
-pub fn rising_ok(es: [HandleEntry; 256], count: u32, next: u32) -> bool
-    ensures { λ r. ⌜ r ≡ rising? count 0x10000 es next ⌝ }
+// count handles in rising order from 0x10000, below next, each of an object number, and zeros; one more in c for the object
+// of each.
+pub fn handles_ok(b: &[u8], c: &mut [u32; 129], count: u32, next: u32) -> bool
+    requires { ⌜ length (now b) ≡ 16384 ⌝ }
+    ensures { λ r. ⌜ r ≡ rising? count 0x10000 (entriesIn (now (b .entry))) next ⌝ }
+    ensures { λ r. ⌜ (r ≡ true → now (c .exit) ≡ tally 129 (now (c .entry)) (handleNames (entriesIn (now (b .entry))))) ⌝ }
 {
+    if 256 < count {
+        return false;
+    }
     let n = count as usize;
     let mut low: u64 = 0x10000;
     let mut i: usize = 0;
-    while i < 256 {
-        let e = es[i];
-        if !entry_ok(i < n, low, e, next) {
+    while i < n {
+        let e = block::record::entry_at(b, i);
+        if !entry_ok(low, e, next) {
             return false;
         }
-        low = low_after(i < n, low, e);
+        let h = e.handle;
+        let o = e.object;
+        tally::bump_at(c, o.0);
+        low = h.0 as u64 + 1;
         i += 1;
     }
-    end_ok(n, low, next)
+    if (next as u64) < low {
+        return false;
+    }
+    codec::zero_words(b, 10368 + n * 8, 512 - n * 2)
 }

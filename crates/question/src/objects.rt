@@ -1,26 +1,22 @@
 // Objects: counts, the free chain, kept objects, and what objects name.
 use crate::chains;
 use crate::records;
-use types::object::HandleEntry;
 use types::object::KObject;
-use types::object::Slot;
-use types::thread::Thread;
 use types::thread::ThreadOption;
 use types::thread::ThreadStatus;
 use units::ObjectId;
 ghost use mathlib.Core.Path.{_≡_};
-ghost use Prim.Native.Nat.{_+_, _-_, _<_, _≤_};
+ghost use Prim.Native.Nat.{_+_, _-_, _*_, _<_, _≤_};
 ghost use lib.Dec.{leb};
 ghost use lib.ListN.{length, replicate};
 ghost use Rattle.laws.specs.Logic.{_and_};
-ghost use Rattle.laws.specs.All.{All};
 ghost use Rattle.laws.specs.Walk.{walk, ends?};
 ghost use Rattle.laws.specs.Tally.{tally};
+ghost use Rattle.block.specs.Tables.{threadsIn, slotsIn, keptIn};
 ghost use Rattle.sound.specs.View.{kinds, refs, nexts, heads, ids};
 ghost use Rattle.sound.specs.Objects.{upTo128};
-ghost use Rattle.tally.specs.Lists.{Eight};
 ghost use Rattle.question.specs.Linear.{slot?, slots?};
-ghost use Rattle.question.specs.LinearObjects.{namedOf, named, countsOf, slotIndex, keptThread?, keptProcess?, keptThreads?, keptBy?, objectsBy?, deadMark, deadMarks, live?, ownerBy?, contentBy?, contentsBy?};
+ghost use Rattle.question.specs.LinearObjects.{namedOf, named, slotIndex, keptThread?, keptProcess?, keptThreads?, keptBy?, objectsBy?, deadMark, deadMarks, live?, ownerBy?, contentBy?, contentsBy?};
 
 // The thread that a thread object names.
 fn named_of(o: KObject) -> u32
@@ -37,27 +33,6 @@ fn named_of(o: KObject) -> u32
         KObject::Process => 0,
         KObject::ResourceLimit => 0,
     }
-}
-
-// How often each object is named.
-fn counts_of(
-    es: [HandleEntry; 256],
-    ts: [Thread; 32],
-    kept: [ObjectId; 32],
-    process: ObjectId,
-) -> [u32; 129]
-    ensures { λ r. ⌜ r ≡ countsOf es ts kept (process .0) ⌝ }
-    ensures { λ _. ⌜ length es ≡ 256 ⌝ }
-    ensures { λ _. ⌜ length ts ≡ 32 ⌝ }
-    ensures { λ _. ⌜ All Eight ts ⌝ }
-    ensures { λ _. ⌜ length kept ≡ 32 ⌝ }
-{
-    let mut c = [0u32; 129];
-    tally::tally_entries(&mut c, es);
-    tally::tally_lists(&mut c, ts);
-    tally::tally_kept(&mut c, kept);
-    tally::bump_at(&mut c, process.0);
-    c
 }
 
 fn one_less(x: u32) -> u32
@@ -101,12 +76,13 @@ fn slots_ok<'a>(
     true
 }
 
-fn kept_numbers_ok(l: [ObjectId; 32]) -> bool
-    ensures { λ r. ⌜ r ≡ upTo128 (ids l) ⌝ }
+fn kept_numbers_ok(b: &[u8]) -> bool
+    requires { ⌜ length (now b) ≡ 16384 ⌝ }
+    ensures { λ r. ⌜ r ≡ upTo128 (ids (keptIn (now (b .entry)))) ⌝ }
 {
     let mut i: usize = 0;
     while i < 32 {
-        let o = l[i];
+        let o = block::record::kept_at(b, i);
         if 128 < o.0 {
             return false;
         }
@@ -115,10 +91,11 @@ fn kept_numbers_ok(l: [ObjectId; 32]) -> bool
     true
 }
 
-fn kept_in(kept: [ObjectId; 32], process: ObjectId) -> bool
-    ensures { λ r. ⌜ r ≡ (upTo128 (ids kept) and leb (process .0) 128) ⌝ }
+fn kept_in(b: &[u8], process: ObjectId) -> bool
+    requires { ⌜ length (now b) ≡ 16384 ⌝ }
+    ensures { λ r. ⌜ r ≡ (upTo128 (ids (keptIn (now (b .entry)))) and leb (process .0) 128) ⌝ }
 {
-    if !kept_numbers_ok(kept) {
+    if !kept_numbers_ok(b) {
         return false;
     }
     process.0 <= 128
@@ -132,10 +109,11 @@ fn held_ok<'a>(
     free: u32,
     c: &'a [u32; 129],
 ) -> bool
+    requires { ⌜ length (now ns) ≡ 128 ⌝ }
     ensures { λ r. ⌜ r ≡ (ends? (now (ns .entry)) 128 free and slots? (now (ks .entry)) (now (rs .entry)) (now (c .entry)) (tally 129 (replicate 129 0) (walk (now (ns .entry)) 128 free)) 128) ⌝ }
 {
     let mut m = [0u32; 129];
-    if !chains::mark_chain(ns, &mut m, free, 128) {
+    if !chains::mark_chain(ns, 128, &mut m, free, 128) {
         return false;
     }
     slots_ok(ks, rs, c, &m)
@@ -183,12 +161,13 @@ fn kept_process(x: u32, kind: u32) -> bool
     kind == 7
 }
 
-fn kept_threads_ok<'a>(ks: &'a [u32; 128], ts: &'a [u32; 128], kept: [ObjectId; 32]) -> bool
-    ensures { λ r. ⌜ r ≡ keptThreads? (now (ks .entry)) (now (ts .entry)) (ids kept) 32 ⌝ }
+fn kept_threads_ok<'a>(ks: &'a [u32; 128], ts: &'a [u32; 128], b: &'a [u8]) -> bool
+    requires { ⌜ length (now b) ≡ 16384 ⌝ }
+    ensures { λ r. ⌜ r ≡ keptThreads? (now (ks .entry)) (now (ts .entry)) (ids (keptIn (now (b .entry)))) 32 ⌝ }
 {
     let mut t: u32 = 32;
     while 0 < t {
-        let k = kept[(t - 1) as usize];
+        let k = block::record::kept_at(b, (t - 1) as usize);
         let x = k.0;
         let i = slot_index(x);
         if !kept_thread(x, ks[i], ts[i], t - 1) {
@@ -200,16 +179,12 @@ fn kept_threads_ok<'a>(ks: &'a [u32; 128], ts: &'a [u32; 128], kept: [ObjectId; 
 }
 
 // Whether each kept object is a thread object that names its own thread, or the process object.
-fn kept_ok<'a>(
-    ks: &'a [u32; 128],
-    ts: &'a [u32; 128],
-    kept: [ObjectId; 32],
-    process: ObjectId,
-) -> bool
-    ensures { λ r. ⌜ r ≡ keptBy? (now (ks .entry)) (now (ts .entry)) (ids kept) (process .0) ⌝ }
+fn kept_ok<'a>(ks: &'a [u32; 128], ts: &'a [u32; 128], b: &'a [u8], process: ObjectId) -> bool
+    requires { ⌜ length (now b) ≡ 16384 ⌝ }
+    ensures { λ r. ⌜ r ≡ keptBy? (now (ks .entry)) (now (ts .entry)) (ids (keptIn (now (b .entry)))) (process .0) ⌝ }
 {
     let x = process.0;
-    if !kept_threads_ok(ks, ts, kept) {
+    if !kept_threads_ok(ks, ts, b) {
         return false;
     }
     kept_process(x, ks[slot_index(x)])
@@ -230,13 +205,14 @@ fn dead_mark(s: ThreadStatus) -> u32
 }
 
 // 1 for each thread that is Dead.
-pub fn dead_marks(ts: [Thread; 32]) -> [u32; 32]
-    ensures { λ r. ⌜ r ≡ deadMarks ts ⌝ }
+pub fn dead_marks(b: &[u8]) -> [u32; 32]
+    requires { ⌜ length (now b) ≡ 16384 ⌝ }
+    ensures { λ r. ⌜ r ≡ deadMarks (threadsIn (now (b .entry))) ⌝ }
 {
     let mut r = [0u32; 32];
     let mut i: usize = 0;
     while i < 32 {
-        let t = ts[i];
+        let t = block::record::thread_at(b, i);
         let s = t.status;
         r[i] = dead_mark(s);
         i += 1;
@@ -285,7 +261,7 @@ fn content_ok(n: u32, d: &[u32], o: KObject) -> bool
 // The columns of the slots in one pass: kinds, counts, nexts of the free chain, first records, threads of thread objects.
 // Whether the threads that objects name exist, and owners are not Dead, by the marks d.
 pub fn columns(
-    l: [Slot; 128],
+    b: &[u8],
     n: u32,
     d: &[u32],
     ks: &mut [u32; 128],
@@ -294,24 +270,24 @@ pub fn columns(
     hs: &mut [u32; 128],
     ts: &mut [u32; 128],
 ) -> bool
+    requires { ⌜ length (now b) ≡ 16384 ⌝ }
     requires { ⌜ length (now ks) ≡ 128 ⌝ }
     requires { ⌜ length (now rs) ≡ 128 ⌝ }
     requires { ⌜ length (now ns) ≡ 128 ⌝ }
     requires { ⌜ length (now hs) ≡ 128 ⌝ }
     requires { ⌜ length (now ts) ≡ 128 ⌝ }
-    ensures { λ r. ⌜ r ≡ contentsBy? n (now (d .entry)) l 128 ⌝ }
-    ensures { λ _. ⌜ now (ks .exit) ≡ kinds l ⌝ }
-    ensures { λ _. ⌜ now (rs .exit) ≡ refs l ⌝ }
-    ensures { λ _. ⌜ now (ns .exit) ≡ nexts l ⌝ }
-    ensures { λ _. ⌜ now (hs .exit) ≡ heads l ⌝ }
-    ensures { λ _. ⌜ now (ts .exit) ≡ named l ⌝ }
-    ensures { λ _. ⌜ length l ≡ 128 ⌝ }
+    ensures { λ r. ⌜ r ≡ contentsBy? n (now (d .entry)) (slotsIn (now (b .entry))) 128 ⌝ }
+    ensures { λ _. ⌜ now (ks .exit) ≡ kinds (slotsIn (now (b .entry))) ⌝ }
+    ensures { λ _. ⌜ now (rs .exit) ≡ refs (slotsIn (now (b .entry))) ⌝ }
+    ensures { λ _. ⌜ now (ns .exit) ≡ nexts (slotsIn (now (b .entry))) ⌝ }
+    ensures { λ _. ⌜ now (hs .exit) ≡ heads (slotsIn (now (b .entry))) ⌝ }
+    ensures { λ _. ⌜ now (ts .exit) ≡ named (slotsIn (now (b .entry))) ⌝ }
 {
     let mut ok = true;
     let mut i: usize = 128;
     while 0 < i {
         i -= 1;
-        let s = l[i];
+        let s = block::record::slot_at(b, i);
         let o = s.object;
         ks[i] = types::object::kind_number(o);
         rs[i] = s.refcount;
@@ -323,7 +299,7 @@ pub fn columns(
     ok
 }
 
-// Whether kept objects are slots, each count is the number of names, the free chain has exactly the dead slots, and each
+// Whether kept objects are slots, each count is the number of names c, the free chain has exactly the dead slots, and each
 // kept object is what it is kept for; from the columns ks, rs, ns and named of the slots.
 pub fn objects_ok<'a>(
     ks: &'a [u32; 128],
@@ -331,23 +307,19 @@ pub fn objects_ok<'a>(
     ns: &'a [u32; 128],
     named: &'a [u32; 128],
     free: u32,
-    es: [HandleEntry; 256],
-    ts: [Thread; 32],
-    kept: [ObjectId; 32],
+    c: &'a [u32; 129],
+    b: &'a [u8],
     process: ObjectId,
 ) -> bool
-    ensures { λ r. ⌜ r ≡ objectsBy? (now (ks .entry)) (now (rs .entry)) (now (ns .entry)) (now (named .entry)) free (countsOf es ts kept (process .0)) (ids kept) (process .0) ⌝ }
-    ensures { λ _. ⌜ length es ≡ 256 ⌝ }
-    ensures { λ _. ⌜ length ts ≡ 32 ⌝ }
-    ensures { λ _. ⌜ All Eight ts ⌝ }
-    ensures { λ _. ⌜ length kept ≡ 32 ⌝ }
+    requires { ⌜ length (now b) ≡ 16384 ⌝ }
+    requires { ⌜ length (now ns) ≡ 128 ⌝ }
+    ensures { λ r. ⌜ r ≡ objectsBy? (now (ks .entry)) (now (rs .entry)) (now (ns .entry)) (now (named .entry)) free (now (c .entry)) (ids (keptIn (now (b .entry)))) (process .0) ⌝ }
 {
-    let c = counts_of(es, ts, kept, process);
-    if !kept_in(kept, process) {
+    if !kept_in(b, process) {
         return false;
     }
-    if !held_ok(ks, rs, ns, free, &c) {
+    if !held_ok(ks, rs, ns, free, c) {
         return false;
     }
-    kept_ok(ks, named, kept, process)
+    kept_ok(ks, named, b, process)
 }

@@ -1,10 +1,12 @@
 // Records of arbiters: their chains share out all 64, none has a pair twice, and free ones are blank.
 use crate::chains;
-use types::object::Waiter;
 ghost use mathlib.Core.Path.{_≡_};
-ghost use lib.ListN.{length};
+ghost use Prim.Native.Nat.{_+_, _*_, _<_, _≤_};
+ghost use lib.ListN.{length, take};
 ghost use Rattle.laws.specs.Logic.{_and_};
 ghost use Rattle.laws.specs.Tally.{tallyAll};
+ghost use Rattle.block.specs.Tables.{waitersIn};
+ghost use Rattle.sound.specs.View.{waiterNexts, waiterThreads, waiterAddresses};
 ghost use Rattle.question.specs.LinearObjects.{endAll?, walkAll, onceAll?, sharedOut?, chainsBy?, recordsBy?};
 
 pub fn both(a: bool, b: bool) -> bool
@@ -17,21 +19,23 @@ pub fn both(a: bool, b: bool) -> bool
 }
 
 // Whether every chain ends, and one more in m for each record that they have.
-fn mark_chains(nx: &[u32], m: &mut [u32; 129], hs: [u32; 128]) -> bool
-    ensures { λ r. ⌜ r ≡ endAll? (now (nx .entry)) hs ⌝ }
-    ensures { λ _. ⌜ now (m .exit) ≡ tallyAll 129 (now (m .entry)) (walkAll (now (nx .entry)) hs) ⌝ }
+fn mark_chains<'a>(nx: &'a [u32; 128], m: &mut [u32; 129], hs: &'a [u32; 128]) -> bool
+    requires { ⌜ length (take 64 (now nx)) ≡ 64 ⌝ }
+    requires { ⌜ length (now hs) ≡ 128 ⌝ }
+    ensures { λ r. ⌜ r ≡ endAll? (take 64 (now (nx .entry))) (now (hs .entry)) ⌝ }
+    ensures { λ _. ⌜ now (m .exit) ≡ tallyAll 129 (now (m .entry)) (walkAll (take 64 (now (nx .entry))) (now (hs .entry))) ⌝ }
 {
     let mut ended = true;
     let mut i: usize = 0;
     while i < 128 {
-        ended = both(ended, chains::mark_chain(nx, m, hs[i], 64));
+        ended = both(ended, chains::mark_chain(nx, 64, m, hs[i], 64));
         i += 1;
     }
     ended
 }
 
-fn once_ok(m: [u32; 129]) -> bool
-    ensures { λ r. ⌜ r ≡ onceAll? m 64 ⌝ }
+fn once_ok(m: &[u32; 129]) -> bool
+    ensures { λ r. ⌜ r ≡ onceAll? (now (m .entry)) 64 ⌝ }
 {
     let mut i: usize = 64;
     while 0 < i {
@@ -44,23 +48,31 @@ fn once_ok(m: [u32; 129]) -> bool
 }
 
 // Whether the chains and the free one end, and have each record once.
-fn shared_out(nx: [u32; 64], hs: [u32; 128], free: u32) -> bool
-    ensures { λ r. ⌜ r ≡ sharedOut? nx hs free ⌝ }
+fn shared_out<'a>(nx: &'a [u32; 128], hs: &'a [u32; 128], free: u32) -> bool
+    requires { ⌜ length (take 64 (now nx)) ≡ 64 ⌝ }
+    requires { ⌜ length (now hs) ≡ 128 ⌝ }
+    ensures { λ r. ⌜ r ≡ sharedOut? (take 64 (now (nx .entry))) (now (hs .entry)) free ⌝ }
 {
     let mut m = [0u32; 129];
-    let ended = mark_chains(&nx, &mut m, hs);
-    let free_ended = chains::mark_chain(&nx, &mut m, free, 64);
+    let ended = mark_chains(nx, &mut m, hs);
+    let free_ended = chains::mark_chain(nx, 64, &mut m, free, 64);
     if !ended {
         return false;
     }
     if !free_ended {
         return false;
     }
-    once_ok(m)
+    once_ok(&m)
 }
 
-fn chains_ok<'a>(nx: &'a [u32], ts: &'a [u32], ad: &'a [u32], n: u32, hs: [u32; 128]) -> bool
-    ensures { λ r. ⌜ r ≡ chainsBy? (now (nx .entry)) (now (ts .entry)) (now (ad .entry)) n hs 128 ⌝ }
+fn chains_ok<'a>(
+    nx: &'a [u32; 128],
+    ts: &'a [u32; 128],
+    ad: &'a [u32; 128],
+    n: u32,
+    hs: &'a [u32; 128],
+) -> bool
+    ensures { λ r. ⌜ r ≡ chainsBy? (take 64 (now (nx .entry))) (take 64 (now (ts .entry))) (take 64 (now (ad .entry))) n (now (hs .entry)) 128 ⌝ }
 {
     let mut o: usize = 128;
     while 0 < o {
@@ -72,17 +84,39 @@ fn chains_ok<'a>(nx: &'a [u32], ts: &'a [u32], ad: &'a [u32], n: u32, hs: [u32; 
     true
 }
 
-// Whether the chains from hs and the free one share out the records, an arbiter's name threads below n and no pair twice, and free ones are blank.
-pub fn records_ok(n: u32, hs: [u32; 128], w: [Waiter; 64], free: u32) -> bool
-    ensures { λ r. ⌜ r ≡ recordsBy? n hs w free ⌝ }
-    ensures { λ _. ⌜ length w ≡ 64 ⌝ }
+// The columns of the 64 records: nexts, threads, addresses.
+fn columns(b: &[u8], nx: &mut [u32; 128], ts: &mut [u32; 128], ad: &mut [u32; 128])
+    requires { ⌜ length (now b) ≡ 16384 ⌝ }
+    requires { ⌜ length (now nx) ≡ 128 ⌝ }
+    requires { ⌜ length (now ts) ≡ 128 ⌝ }
+    requires { ⌜ length (now ad) ≡ 128 ⌝ }
+    ensures { λ _. ⌜ take 64 (now (nx .exit)) ≡ waiterNexts (waitersIn (now (b .entry))) ⌝ }
+    ensures { λ _. ⌜ take 64 (now (ts .exit)) ≡ waiterThreads (waitersIn (now (b .entry))) ⌝ }
+    ensures { λ _. ⌜ take 64 (now (ad .exit)) ≡ waiterAddresses (waitersIn (now (b .entry))) ⌝ }
 {
-    let nx = tally::columns::nexts_of(w);
-    if !shared_out(nx, hs, free) {
+    let mut i: usize = 0;
+    while i < 64 {
+        let w = block::record::waiter_at(b, i);
+        nx[i] = w.next;
+        ts[i] = w.thread;
+        ad[i] = w.address;
+        i += 1;
+    }
+}
+
+// Whether the chains from hs and the free one share out the records, an arbiter's name threads below n and no pair twice, and free ones are blank.
+pub fn records_ok<'a>(n: u32, hs: &'a [u32; 128], b: &'a [u8], free: u32) -> bool
+    requires { ⌜ length (now b) ≡ 16384 ⌝ }
+    requires { ⌜ length (now hs) ≡ 128 ⌝ }
+    ensures { λ r. ⌜ r ≡ recordsBy? n (now (hs .entry)) (waitersIn (now (b .entry))) free ⌝ }
+{
+    let mut nx = [0u32; 128];
+    let mut ts = [0u32; 128];
+    let mut ad = [0u32; 128];
+    columns(b, &mut nx, &mut ts, &mut ad);
+    if !shared_out(&nx, hs, free) {
         return false;
     }
-    let ts = tally::columns::threads_of(w);
-    let ad = tally::columns::addresses_of(w);
     if !chains_ok(&nx, &ts, &ad, n, hs) {
         return false;
     }

@@ -7,11 +7,12 @@ use types::thread::ThreadStatus;
 use units::ObjectId;
 ghost use mathlib.Core.Path.{_≡_};
 ghost use mathlib.Core.Bool.{not};
-ghost use Prim.Native.Nat.{_+_, _-_, _<_, _≤_};
+ghost use Prim.Native.Nat.{_+_, _-_, _*_, _<_, _≤_};
 ghost use lib.Dec.{eqb};
 ghost use lib.ListN.{length};
 ghost use Rattle.laws.specs.Logic.{_and_};
 ghost use Rattle.block.specs.Thread.{wordsList};
+ghost use Rattle.block.specs.Tables.{threadsIn};
 ghost use Rattle.sound.specs.View.{ids};
 ghost use Rattle.sound.specs.Threads.{zeros?, places?, only?, isCurrent, run?, thread?, blank?, place?, current?, threads?};
 ghost use Rattle.question.specs.Linear.{onePlace?, runs?, places32?};
@@ -169,12 +170,13 @@ fn current_ok(c: ThreadOption, n: u32) -> bool
     }
 }
 
-fn all_places_ok(n: u32, c: ThreadOption, ts: [Thread; 32]) -> bool
-    ensures { λ r. ⌜ r ≡ places32? n c ts ⌝ }
+fn all_places_ok(n: u32, c: ThreadOption, b: &[u8]) -> bool
+    requires { ⌜ length (now b) ≡ 16384 ⌝ }
+    ensures { λ r. ⌜ r ≡ places32? n c (threadsIn (now (b .entry))) ⌝ }
 {
     let mut i: usize = 32;
     while 0 < i {
-        let t = ts[i - 1];
+        let t = block::record::thread_at(b, i - 1);
         if !place_ok(n, c, (i - 1) as u32, t) {
             return false;
         }
@@ -183,8 +185,9 @@ fn all_places_ok(n: u32, c: ThreadOption, ts: [Thread; 32]) -> bool
     true
 }
 
-pub fn threads_ok(n: u32, c: ThreadOption, ts: [Thread; 32]) -> bool
-    ensures { λ r. ⌜ r ≡ threads? n c ts ⌝ }
+pub fn threads_ok(n: u32, c: ThreadOption, b: &[u8]) -> bool
+    requires { ⌜ length (now b) ≡ 16384 ⌝ }
+    ensures { λ r. ⌜ r ≡ threads? n c (threadsIn (now (b .entry))) ⌝ }
 {
     if 32 < n {
         return false;
@@ -192,5 +195,5 @@ pub fn threads_ok(n: u32, c: ThreadOption, ts: [Thread; 32]) -> bool
     if !current_ok(c, n) {
         return false;
     }
-    all_places_ok(n, c, ts)
+    all_places_ok(n, c, b)
 }

@@ -1,9 +1,10 @@
 // TLS slots.
 use types::thread::Thread;
 ghost use mathlib.Core.Path.{_≡_};
-ghost use Prim.Native.Nat.{_+_, _-_, _<_, _≤_};
+ghost use Prim.Native.Nat.{_+_, _-_, _*_, _<_, _≤_};
 ghost use lib.ListN.{length};
 ghost use Rattle.laws.specs.Tally.{tally};
+ghost use Rattle.block.specs.Tables.{threadsIn};
 ghost use Rattle.sound.specs.Tls.{held, below?, tls?};
 ghost use Rattle.tally.specs.Lists.{slotOf};
 ghost use Rattle.question.specs.Linear.{once32?};
@@ -19,17 +20,30 @@ fn slot_below(next: u32, t: Thread) -> bool
 }
 
 // The slots of live threads are below next.
-fn below_ok(next: u32, ts: [Thread; 32]) -> bool
-    ensures { λ r. ⌜ r ≡ below? next (held ts) ⌝ }
+fn below_ok(next: u32, b: &[u8]) -> bool
+    requires { ⌜ length (now b) ≡ 16384 ⌝ }
+    ensures { λ r. ⌜ r ≡ below? next (held (threadsIn (now (b .entry)))) ⌝ }
 {
     let mut i: usize = 0;
     while i < 32 {
-        if !slot_below(next, ts[i]) {
+        if !slot_below(next, block::record::thread_at(b, i)) {
             return false;
         }
         i += 1;
     }
     true
+}
+
+// One more for the TLS slot of each live thread.
+fn tally_tls(m: &mut [u32; 129], b: &[u8])
+    requires { ⌜ length (now b) ≡ 16384 ⌝ }
+    ensures { λ _. ⌜ now (m .exit) ≡ tally 129 (now (m .entry)) (held (threadsIn (now (b .entry)))) ⌝ }
+{
+    let mut i: usize = 0;
+    while i < 32 {
+        tally::tally_slot(m, block::record::thread_at(b, i));
+        i += 1;
+    }
 }
 
 // No count of the first 32 is above 1.
@@ -46,16 +60,17 @@ fn once_ok(m: [u32; 129]) -> bool
     true
 }
 
-pub fn tls_ok(ts: [Thread; 32], next: u32) -> bool
-    ensures { λ r. ⌜ r ≡ tls? ts next ⌝ }
+pub fn tls_ok(b: &[u8], next: u32) -> bool
+    requires { ⌜ length (now b) ≡ 16384 ⌝ }
+    ensures { λ r. ⌜ r ≡ tls? (threadsIn (now (b .entry))) next ⌝ }
 {
     if 32 < next {
         return false;
     }
-    if !below_ok(next, ts) {
+    if !below_ok(next, b) {
         return false;
     }
     let mut m = [0u32; 129];
-    tally::tally_tls(&mut m, ts);
+    tally_tls(&mut m, b);
     once_ok(m)
 }

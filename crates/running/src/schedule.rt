@@ -108,7 +108,7 @@ pub fn operate(
         return 1;
     }
     let k = block::decode(block);
-    if !questions::block_ok(block, k) {
+    if !questions::block_ok(block) {
         return 2;
     }
     let p = scheduler::schedule::schedule(k, tick);

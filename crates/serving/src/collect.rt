@@ -33,7 +33,7 @@ pub fn operate(block: &mut [u8], answer: &mut [u8]) -> u32
         return 1;
     }
     let k = block::decode(block);
-    if !questions::block_ok(block, k) {
+    if !questions::block_ok(block) {
         return 2;
     }
     if !dispatch::questions::runs(k) {

@@ -209,7 +209,7 @@ pub fn operate(
         return 1;
     }
     let k = block::decode(block);
-    if !questions::block_ok(block, k) {
+    if !questions::block_ok(block) {
         return 2;
     }
     let r = registers_for(number, processor);

@@ -1,17 +1,15 @@
 // Counting into an array: how often each number is named.
 pub mod columns;
 
-use types::object::HandleEntry;
 use types::thread::Thread;
 use units::ObjectId;
 ghost use mathlib.Core.Path.{_≡_};
 ghost use Prim.Native.Nat.{_+_, _≤_};
 ghost use lib.ListN.{length};
-ghost use Rattle.laws.specs.All.{All};
-ghost use Rattle.laws.specs.Tally.{bump, tally, tallyAll};
+ghost use Rattle.laws.specs.Tally.{bump, tally};
 ghost use Rattle.sound.specs.Tls.{held};
 ghost use Rattle.sound.specs.View.{ids};
-ghost use Rattle.tally.specs.Lists.{Eight, slotOf, nameOf, handleNames, names, listNames};
+ghost use Rattle.tally.specs.Lists.{slotOf, nameOf, names};
 
 // One more for o.
 pub fn bump_at(c: &mut [u32; 129], o: u32)
@@ -29,28 +27,13 @@ pub fn bump_at(c: &mut [u32; 129], o: u32)
 }
 
 // What a number is counted as: 0 names no object, and is counted as a number that has no place.
-fn name(x: u32) -> u32
+pub fn name(x: u32) -> u32
     ensures { λ r. ⌜ r ≡ nameOf x ⌝ }
 {
     if x == 0 {
         return 129;
     }
     x
-}
-
-// One more for the object of each handle.
-pub fn tally_entries(c: &mut [u32; 129], es: [HandleEntry; 256])
-    ensures { λ _. ⌜ now (c .exit) ≡ tally 129 (now (c .entry)) (handleNames es) ⌝ }
-    ensures { λ _. ⌜ length es ≡ 256 ⌝ }
-{
-    let mut i: usize = 0;
-    while i < 256 {
-        let e = es[i];
-        let o = e.object;
-        let n = name(o.0);
-        bump_at(c, n);
-        i += 1;
-    }
 }
 
 // One more for each object of one list.
@@ -66,7 +49,8 @@ pub fn tally_list(c: &mut [u32; 129], l: [ObjectId; 8])
     }
 }
 
-fn tally_names(c: &mut [u32; 129], l: [ObjectId; 8])
+// One more for each object that a list names.
+pub fn tally_names(c: &mut [u32; 129], l: [ObjectId; 8])
     ensures { λ _. ⌜ now (c .exit) ≡ tally 129 (now (c .entry)) (names l) ⌝ }
     ensures { λ _. ⌜ length l ≡ 8 ⌝ }
 {
@@ -79,36 +63,8 @@ fn tally_names(c: &mut [u32; 129], l: [ObjectId; 8])
     }
 }
 
-// One more for each object that a thread's list names.
-pub fn tally_lists(c: &mut [u32; 129], ts: [Thread; 32])
-    ensures { λ _. ⌜ now (c .exit) ≡ tallyAll 129 (now (c .entry)) (listNames ts) ⌝ }
-    ensures { λ _. ⌜ length ts ≡ 32 ⌝ }
-    ensures { λ _. ⌜ All Eight ts ⌝ }
-{
-    let mut i: usize = 0;
-    while i < 32 {
-        let t = ts[i];
-        let l = t.wait_objects;
-        tally_names(c, l);
-        i += 1;
-    }
-}
-
-// One more for each kept thread object.
-pub fn tally_kept(c: &mut [u32; 129], l: [ObjectId; 32])
-    ensures { λ _. ⌜ now (c .exit) ≡ tally 129 (now (c .entry)) (names l) ⌝ }
-    ensures { λ _. ⌜ length l ≡ 32 ⌝ }
-{
-    let mut i: usize = 0;
-    while i < 32 {
-        let o = l[i];
-        let n = name(o.0);
-        bump_at(c, n);
-        i += 1;
-    }
-}
-
-fn tally_slot(m: &mut [u32; 129], t: Thread)
+// One more for the TLS slot of a live thread.
+pub fn tally_slot(m: &mut [u32; 129], t: Thread)
     ensures { λ _. ⌜ now (m .exit) ≡ tally 129 (now (m .entry)) (slotOf t) ⌝ }
 {
     let s = t.status;

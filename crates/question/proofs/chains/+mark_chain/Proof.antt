@@ -1,6 +1,8 @@
 use mathlib.Core.Path.{_∙_}
 use native.Mathlib.Omega.{arith}
+use lib.ListN.{take}
 use Rattle.question.specs.ObjectSteps.{mark-nil, mark-out, mark-far, mark-go}
+use Rattle.question.proofs.Cells.{take-short}
 use borrow.Author.Needs.{needs}
 use Prim.Native.Nat.{ℕ, _<_}
 use borrow.Fn.Kinds.{In}
@@ -14,7 +16,7 @@ use Rattle.question.proofs.chains.+mark_chain.{statement}
 use Rattle.question.proofs.chains.+mark_chain.Tie.{close}
 
 abbrev μ-mark-chain : Measures 2 mark-chain-kinds.ps ℕ
-μ-mark-chain κs a = a .1 .1 .1 .0
+μ-mark-chain κs a = a .1 .1 .1 .1 .0
 
 abbrev mark-chain-at : ℕ → In 2 mark-chain-kinds.ps
 mark-chain-at t =
@@ -63,8 +65,9 @@ mark-chain-returns-3 : (t : ℕ) → mark-chain-lts.Need-returns-3 (
   mark-chain.Post,
 ) (mark-chain-at t) mark-chain.Post
 mark-chain-returns-3 t c =
-    let s = c .before .before .before .before .before .before in
-    let w = mark-far (s .args .nx .now) (s .args .m .now) (s .args .left) (s .args .at) (c .before .before .before .if2 .left) (c .before .before .before .before .if1 .left) (c .if3 .taken) in
+    let s = c .before .before .before .before .before in
+    let l = take (s .args .n) (s .args .nx .now) in
+    let w = mark-far l (s .args .m .now) (s .args .left) (s .args .at) (c .before .before .before .if2 .left) (c .before .before .before .before .if1 .left) (omega (arith, c .if3 .taken, take-short (s .args .n) (s .args .nx .now))) in
     (w .0, c .before .bump-at .ensures ∙ w .1)
 
 mark-chain-cell-requires : (t : ℕ) → mark-chain-lts.Need-cell-requires (
@@ -95,7 +98,7 @@ mark-chain-mark-chain-requires : (t : ℕ) → mark-chain-lts.Need-mark-chain-re
   mark-chain-below t,
   mark-chain.Post,
 ) (mark-chain-at t) mark-chain.Post
-mark-chain-mark-chain-requires t c κs = (omega arith, tt)
+mark-chain-mark-chain-requires t c κs = (omega arith, c .before .before .before .before .before .before .before .pre .1)
 
 mark-chain-returns-4 : (t : ℕ) → mark-chain-lts.Need-returns-4 (
   bump-at-reads.Asked,
@@ -106,8 +109,9 @@ mark-chain-returns-4 : (t : ℕ) → mark-chain-lts.Need-returns-4 (
   mark-chain.Post,
 ) (mark-chain-at t) mark-chain.Post
 mark-chain-returns-4 t c =
-    let s = c .before .before .before .before .before .before .before .before .before in
-    let w = mark-go (s .args .nx .now) (s .args .m .now) (s .args .left) (s .args .at) (c .before .before .before .before .before .before .if2 .left) (c .before .before .before .before .before .before .before .if1 .left) (c .before .before .before .if3 .left) in
+    let s = c .before .before .before .before .before .before .before .before in
+    let l = take (s .args .n) (s .args .nx .now) in
+    let w = mark-go l (s .args .m .now) (s .args .left) (s .args .at) (c .before .before .before .before .before .before .if2 .left) (c .before .before .before .before .before .before .before .if1 .left) (omega (arith, c .before .before .before .if3 .left, s .pre)) in
     let n = c .before .before .cell .ensures in
     (c .mark-chain .ensures .0 ∙ rw n (w .0), c .mark-chain .ensures .1 ∙ rw (c .before .before .before .before .bump-at .ensures, n) (w .1))
 

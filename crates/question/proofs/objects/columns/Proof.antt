@@ -5,23 +5,17 @@ use Prim.Native.Nat.{ℕ, _-_, _≤_, _<_}
 use native.Mathlib.Omega.{arith}
 use lib.ListN.{length, drop}
 use Rattle.laws.specs.Logic.{_and_}
-use Rattle.codec.proofs.Fit.{_&_}
+use Rattle.codec.proofs.Fit.{_&_, length-decAll}
 use Rattle.types.specs.declared.object.Slot.{Slot}
 use Rattle.types.specs.Object.{kindNumber, nextOf, headOf}
+use Rattle.block.specs.Slot.{decSlot}
+use Rattle.block.specs.Tables.{slotsIn, row-at}
 use Rattle.sound.specs.View.{kinds, refs, nexts, heads, noSlot}
 use Rattle.question.specs.LinearObjects.{namedOf, named, contentsBy?}
 use Rattle.question.specs.ObjectSteps.{column-start, column-more, column-done, contents-more, contents-end}
 use borrow.Author.Needs.{needs}
 use Rattle.question.proofs.objects.columns.Statement.{statement}
 use Rattle.question.proofs.objects.columns.Tie as tie
-use Rattle.question.proofs.objects.columns.Reads as reads
-use Rattle.question.proofs.objects.columns.Lts as lts
-use Rattle.question.proofs.objects.content_ok.Reads as content-ok-reads
-use Rattle.question.proofs.objects.named_of.Reads as named-of-reads
-use Rattle.question.proofs.records.both.Reads as both-reads
-use Rattle.types.proofs.object.head_of.Reads as head-of-reads
-use Rattle.types.proofs.object.kind_number.Reads as kind-number-reads
-use Rattle.types.proofs.object.next_of.Reads as next-of-reads
 
 abbrev kind : Slot → ℕ
 kind s = kindNumber (s .object)
@@ -39,34 +33,35 @@ abbrev thread : Slot → ℕ
 thread s = namedOf (s .object)
 
 abbrev Inv-loop : tie.InvT-loop
-Inv-loop n d ks₀ rs₀ ns₀ hs₀ ts₀ l ok₀ i₀ ks rs ns hs ts ok i =
+Inv-loop b n d ks₀ rs₀ ns₀ hs₀ ts₀ ok₀ i₀ ks rs ns hs ts ok i =
     (i ≤ 128)
     × ((length ks ≡ 128)
     × ((length rs ≡ 128)
     × ((length ns ≡ 128)
     × ((length hs ≡ 128)
     × ((length ts ≡ 128)
-    × ((ok and contentsBy? n d l i ≡ contentsBy? n d l 128)
-    × ((drop i ks ≡ kinds (drop i l))
-    × ((drop i rs ≡ refs (drop i l))
-    × ((drop i ns ≡ nexts (drop i l))
-    × ((drop i hs ≡ heads (drop i l))
-    × (drop i ts ≡ named (drop i l))))))))))))
+    × ((ok and contentsBy? n d (slotsIn b) i ≡ contentsBy? n d (slotsIn b) 128)
+    × ((drop i ks ≡ kinds (drop i (slotsIn b)))
+    × ((drop i rs ≡ refs (drop i (slotsIn b)))
+    × ((drop i ns ≡ nexts (drop i (slotsIn b)))
+    × ((drop i hs ≡ heads (drop i (slotsIn b)))
+    × (drop i ts ≡ named (drop i (slotsIn b)))))))))))))
 
 abbrev μ-loop : tie.MeasureT-loop
-μ-loop n d ks₀ rs₀ ns₀ hs₀ ts₀ l ok₀ i₀ ks rs ns hs ts ok i = i
+μ-loop b n d ks₀ rs₀ ns₀ hs₀ ts₀ ok₀ i₀ ks rs ns hs ts ok i = i
 
 loop-holds : tie.Need-loop-holds Inv-loop μ-loop
 unfolding _and_
 loop-holds c =
-    let s = c .before in
+    let s = c .before .before in
     let a = s .args in
-    let n : length (a .t1) ≤ 128 = omega (arith, s .good) in
-    let k₁ : length (a .ks .now) ≡ 128 = s .pre .0 in
-    let k₂ : length (a .rs .now) ≡ 128 = s .pre .1 .0 in
-    let k₃ : length (a .ns .now) ≡ 128 = s .pre .1 .1 .0 in
-    let k₄ : length (a .hs .now) ≡ 128 = s .pre .1 .1 .1 .0 in
-    let k₅ : length (a .ts .now) ≡ 128 = s .pre .1 .1 .1 .1 in
+    let l = slotsIn (a .b .now) in
+    let n : length l ≤ 128 = omega (arith, length-decAll decSlot 40 128 (a .b .now) 5248) in
+    let k₁ : length (a .ks .now) ≡ 128 = s .pre .1 .0 in
+    let k₂ : length (a .rs .now) ≡ 128 = s .pre .1 .1 .0 in
+    let k₃ : length (a .ns .now) ≡ 128 = s .pre .1 .1 .1 .0 in
+    let k₄ : length (a .hs .now) ≡ 128 = s .pre .1 .1 .1 .1 .0 in
+    let k₅ : length (a .ts .now) ≡ 128 = s .pre .1 .1 .1 .1 .1 in
     search needs
     & k₁
     & k₂
@@ -74,20 +69,17 @@ loop-holds c =
     & k₄
     & k₅
     & refl
-    & column-start kind noSlot (a .t1) (a .ks .now) 128 n (omega (arith, k₁))
-    & column-start count noSlot (a .t1) (a .rs .now) 128 n (omega (arith, k₂))
-    & column-start next noSlot (a .t1) (a .ns .now) 128 n (omega (arith, k₃))
-    & column-start head noSlot (a .t1) (a .hs .now) 128 n (omega (arith, k₄))
-    & column-start thread noSlot (a .t1) (a .ts .now) 128 n (omega (arith, k₅))
+    & column-start kind noSlot l (a .ks .now) 128 n (omega (arith, k₁))
+    & column-start count noSlot l (a .rs .now) 128 n (omega (arith, k₂))
+    & column-start next noSlot l (a .ns .now) 128 n (omega (arith, k₃))
+    & column-start head noSlot l (a .hs .now) 128 n (omega (arith, k₄))
+    & column-start thread noSlot l (a .ts .now) 128 n (omega (arith, k₅))
 
 sub-i : tie.Need-sub-i Inv-loop μ-loop
 sub-i c = search needs
 
-mul-s : tie.Need-mul-s Inv-loop μ-loop
-mul-s c = search needs
-
-array-copy-out-s : tie.Need-array-copy-out-s Inv-loop μ-loop
-array-copy-out-s c = search needs
+slot-at-requires : tie.Need-slot-at-requires Inv-loop μ-loop
+slot-at-requires c κs = search needs
 
 kind-number-requires : tie.Need-kind-number-requires Inv-loop μ-loop
 kind-number-requires c κs = search needs
@@ -144,10 +136,11 @@ loop-again : tie.Need-loop-again Inv-loop μ-loop
 loop-again c =
     let p = c .before .before .before .before .before .before .before in
     let l = p .before .loop in
-    let s = p .before .before .before in
-    let a = s .args in
+    let a = c .before .before .before .before .before .before .before .before .before .before .before .args in
+    let m = slotsIn (a .b .now) in
     let q = p .loop-test .taken in
-    let n : l .i ≤ length (a .t1) = omega (arith, s .good) in
+    let n : l .i ≤ length m = omega (arith, length-decAll decSlot 40 128 (a .b .now) 5248) in
+    let t = c .before .before .before .before .before .before .slot-at .ensures ∙ row-at decSlot 40 noSlot 128 (a .b .now) 5248 (l .i - 1) (omega arith) in
     let v = l .inv .1 in
     let k₁ : l .i ≤ length (l .ks) = omega arith in
     let k₂ : l .i ≤ length (l .rs) = omega arith in
@@ -161,28 +154,25 @@ loop-again c =
     & search needs
     & search needs
     & search needs
-    & rw (c .both .ensures, c .before .content-ok .ensures) (sym (contents-more _ _ (a .t1) (l .i) (l .ok) q) ∙ w .0)
-    & rw (c .before .before .before .before .before .kind-number .ensures) (column-more kind noSlot (a .t1) (l .ks) (l .i) q n k₁ (w .1 .0))
-    & column-more count noSlot (a .t1) (l .rs) (l .i) q n k₂ (w .1 .1 .0)
-    & rw (c .before .before .before .before .next-of .ensures) (column-more next noSlot (a .t1) (l .ns) (l .i) q n k₃ (w .1 .1 .1 .0))
-    & rw (c .before .before .before .head-of .ensures) (column-more head noSlot (a .t1) (l .hs) (l .i) q n k₄ (w .1 .1 .1 .1 .0))
-    & rw (c .before .before .named-of .ensures) (column-more thread noSlot (a .t1) (l .ts) (l .i) q n k₅ (w .1 .1 .1 .1 .1))
+    & rw (c .both .ensures, c .before .content-ok .ensures, t) (sym (contents-more _ _ m (l .i) (l .ok) q) ∙ w .0)
+    & rw (c .before .before .before .before .before .kind-number .ensures, t) (column-more kind noSlot m (l .ks) (l .i) q n k₁ (w .1 .0))
+    & rw t (column-more count noSlot m (l .rs) (l .i) q n k₂ (w .1 .1 .0))
+    & rw (c .before .before .before .before .next-of .ensures, t) (column-more next noSlot m (l .ns) (l .i) q n k₃ (w .1 .1 .1 .0))
+    & rw (c .before .before .before .head-of .ensures, t) (column-more head noSlot m (l .hs) (l .i) q n k₄ (w .1 .1 .1 .1 .0))
+    & rw (c .before .before .named-of .ensures, t) (column-more thread noSlot m (l .ts) (l .i) q n k₅ (w .1 .1 .1 .1 .1))
 
 returns : tie.Need-returns Inv-loop μ-loop
 returns c =
     let l = c .before .loop in
-    let s = c .before .before .before in
-    let a = s .args in
+    let m = slotsIn (c .before .before .before .before .args .b .now) in
     let q = c .loop-test .left in
-    let n : length (a .t1) ≡ 128 = omega (arith, s .good) in
     let w = l .inv .1 .1 .1 .1 .1 .1 in
-    (sym (contents-end _ _ (a .t1) (l .i) (l .ok) q) ∙ w .0)
-    & column-done kind noSlot (a .t1) (l .ks) (l .i) q (w .1 .0)
-    & column-done count noSlot (a .t1) (l .rs) (l .i) q (w .1 .1 .0)
-    & column-done next noSlot (a .t1) (l .ns) (l .i) q (w .1 .1 .1 .0)
-    & column-done head noSlot (a .t1) (l .hs) (l .i) q (w .1 .1 .1 .1 .0)
-    & column-done thread noSlot (a .t1) (l .ts) (l .i) q (w .1 .1 .1 .1 .1)
-    & n
+    (sym (contents-end _ _ m (l .i) (l .ok) q) ∙ w .0)
+    & column-done kind noSlot m (l .ks) (l .i) q (w .1 .0)
+    & column-done count noSlot m (l .rs) (l .i) q (w .1 .1 .0)
+    & column-done next noSlot m (l .ns) (l .i) q (w .1 .1 .1 .0)
+    & column-done head noSlot m (l .hs) (l .i) q (w .1 .1 .1 .1 .0)
+    & column-done thread noSlot m (l .ts) (l .i) q (w .1 .1 .1 .1 .1)
 
 pub columns-spec : {M : Type 1} → statement M
 columns-spec =
@@ -192,8 +182,7 @@ columns-spec =
     μ-loop
     loop-holds
     sub-i
-    mul-s
-    array-copy-out-s
+    slot-at-requires
     kind-number-requires
     mul-ks
     element-write-ks

@@ -1,8 +1,12 @@
-use mathlib.Core.Path.{_≡_, refl}
+use mathlib.Core.Path.{_≡_, refl, _∙_}
 use Prim.Native.Nat.{_-_, _≤_, _<_}
 use native.Mathlib.Omega.{arith}
 use lib.ListN.{length, take}
+use Rattle.block.specs.Thread.{decThread}
+use Rattle.block.specs.Tables.{threadsIn, row-at}
+use Rattle.codec.proofs.Fit.{length-decAll}
 use Rattle.types.specs.declared.thread.Thread.{Thread}
+use Rattle.sound.specs.View.{noThread}
 use Rattle.question.specs.LinearObjects.{deadMark, deadMarks}
 use Rattle.tally.specs.Columns.{map-more, map-done}
 use borrow.Author.Needs.{needs}
@@ -10,19 +14,16 @@ use Rattle.question.proofs.objects.dead_marks.Statement.{statement}
 use Rattle.question.proofs.objects.dead_marks.Tie as tie
 
 abbrev Inv-loop : tie.InvT-loop
-Inv-loop ts r₀ i₀ r i = (i ≤ 32) × ((length r ≡ 32) × (take i r ≡ deadMarks (take i ts)))
+Inv-loop b r₀ i₀ r i = (i ≤ 32) × ((length r ≡ 32) × (take i r ≡ deadMarks (take i (threadsIn b))))
 
 abbrev μ-loop : tie.MeasureT-loop
-μ-loop ts r₀ i₀ r i = 32 - i
+μ-loop b r₀ i₀ r i = 32 - i
 
 loop-holds : tie.Need-loop-holds Inv-loop μ-loop
 loop-holds c = (search needs, (search needs, refl))
 
-mul-t : tie.Need-mul-t Inv-loop μ-loop
-mul-t c = search needs
-
-array-copy-out-t : tie.Need-array-copy-out-t Inv-loop μ-loop
-array-copy-out-t c = search needs
+thread-at-requires : tie.Need-thread-at-requires Inv-loop μ-loop
+thread-at-requires c κs = search needs
 
 dead-mark-requires : tie.Need-dead-mark-requires Inv-loop μ-loop
 dead-mark-requires c κs = search needs
@@ -42,20 +43,21 @@ loop-less c = search needs
 loop-again : tie.Need-loop-again Inv-loop μ-loop
 loop-again c =
     let l = c .before .before .before .loop in
-    let s = c .before .before .before .before in
-    let n : length (s .args .t1) ≡ 32 = omega (arith, s .good) in
-    let h : l .i < length (s .args .t1) = omega arith in
+    let b = c .before .before .before .before .before .args .b .now in
+    let n : length (threadsIn b) ≡ 32 = length-decAll decThread 160 32 b 128 in
+    let h : l .i < length (threadsIn b) = omega arith in
     let k : l .i < length (l .r) = omega arith in
-    (search needs, (search needs, rw (c .dead-mark .ensures) (map-more (λ (x : Thread). deadMark (x .status)) (s .args .t1) _ (l .r) (l .i) h k (l .inv .1 .1))))
+    let t = c .before .thread-at .ensures ∙ row-at decThread 160 noThread 32 b 128 (l .i) (omega arith) in
+    (search needs, (search needs, rw (c .dead-mark .ensures, t) (map-more (λ (x : Thread). deadMark (x .status)) (threadsIn b) noThread (l .r) (l .i) h k (l .inv .1 .1))))
 
 returns : tie.Need-returns Inv-loop μ-loop
 returns c =
     let l = c .before .loop in
-    let s = c .before .before in
-    let n : length (s .args .t1) ≡ 32 = omega (arith, s .good) in
-    let e : length (s .args .t1) ≤ l .i = omega arith in
+    let b = c .before .before .before .args .b .now in
+    let n : length (threadsIn b) ≡ 32 = length-decAll decThread 160 32 b 128 in
+    let e : length (threadsIn b) ≤ l .i = omega arith in
     let k : length (l .r) ≤ l .i = omega arith in
-    map-done (λ (x : Thread). deadMark (x .status)) (s .args .t1) (l .r) (l .i) e k (l .inv .1 .1)
+    map-done (λ (x : Thread). deadMark (x .status)) (threadsIn b) (l .r) (l .i) e k (l .inv .1 .1)
 
 pub dead-marks-spec : {M : Type 1} → statement M
 dead-marks-spec =
@@ -64,8 +66,7 @@ dead-marks-spec =
     Inv-loop
     μ-loop
     loop-holds
-    mul-t
-    array-copy-out-t
+    thread-at-requires
     dead-mark-requires
     mul-r
     array-write-r

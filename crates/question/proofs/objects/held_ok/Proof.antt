@@ -1,3 +1,8 @@
+use mathlib.Core.Path.{_≡_}
+use native.Mathlib.Omega.{arith}
+use lib.ListN.{take}
+use lib.Seq.{take-all}
+use Rattle.codec.proofs.Same.{length-part}
 use borrow.Author.Needs.{needs}
 use mathlib.Core.Path.{sym, _∙_}
 use borrow.Author.Tests.{not-true, not-false}
@@ -10,10 +15,13 @@ use Rattle.question.proofs.chains.mark_chain.Reads as mark-chain-reads
 use Rattle.question.proofs.objects.slots_ok.Reads as slots-ok-reads
 
 mark-chain-requires : tie.Need-mark-chain-requires
-mark-chain-requires c κs = search needs
+mark-chain-requires c κs = (omega arith, length-part (c .before .args .ns .now) 0 128 (omega (arith, c .before .pre)))
 
 returns : tie.Need-returns
-returns c = sym (and-no _ _ (sym (c .before .mark-chain .ensures .0) ∙ not-true _ (c .if1 .taken)))
+returns c =
+    let s = c .before .before .before in
+    let e : take 128 (s .args .ns .now) ≡ s .args .ns .now = take-all 128 (s .args .ns .now) (omega (arith, s .pre)) in
+    sym (and-no _ _ (sym (rw e at (c .before .mark-chain .ensures .0)) ∙ not-true _ (c .if1 .taken)))
 
 slots-ok-requires : tie.Need-slots-ok-requires
 slots-ok-requires c κs = search needs
@@ -21,7 +29,9 @@ slots-ok-requires c κs = search needs
 returns-2 : tie.Need-returns-2
 returns-2 c =
     let q = c .before .before in
-    let w = q .before .mark-chain .ensures in
+    let s = q .before .before .before in
+    let e : take 128 (s .args .ns .now) ≡ s .args .ns .now = take-all 128 (s .args .ns .now) (omega (arith, s .pre)) in
+    let w = rw e at (q .before .mark-chain .ensures) in
     rw (w .1) at (c .slots-ok .ensures) ∙ sym (and-yes _ _ (sym (w .0) ∙ not-false _ (q .if1 .left)))
 
 pub held-ok-spec : {M : Type 1} → statement M

@@ -1,38 +1,34 @@
-use mathlib.Core.Path.{_≡_, refl, sym, _∙_}
-use Prim.Native.Nat.{_≤_}
+use mathlib.Core.Path.{_≡_, refl, sym, ap, _∙_}
+use Prim.Native.Nat.{_-_, _≤_, _<_}
+use native.Mathlib.Omega.{arith}
 use borrow.Author.Tests.{not-true, not-false}
 use Rattle.laws.specs.Logic.{and-no, and-yes}
+use Rattle.block.specs.Table.{decId}
+use Rattle.block.specs.Tables.{keptIn, row-at}
 use Rattle.sound.specs.View.{ids}
 use Rattle.question.specs.LinearObjects.{keptThreads?}
 use Rattle.question.specs.ObjectSteps.{kept-step, kept-end}
 use borrow.Author.Needs.{needs}
 use Rattle.question.proofs.objects.kept_threads_ok.Statement.{statement}
 use Rattle.question.proofs.objects.kept_threads_ok.Tie as tie
-use Rattle.question.proofs.objects.kept_threads_ok.Reads as reads
-use Rattle.question.proofs.objects.kept_threads_ok.Lts as lts
-use Rattle.question.proofs.objects.kept_thread.Reads as kept-thread-reads
-use Rattle.question.proofs.objects.slot_index.Reads as slot-index-reads
 
 abbrev Inv-loop : tie.InvT-loop
-Inv-loop ks ts kept t₀ t = (t ≤ 32) × (keptThreads? ks ts (ids kept) t ≡ keptThreads? ks ts (ids kept) 32)
+Inv-loop ks ts b t₀ t = (t ≤ 32) × (keptThreads? ks ts (ids (keptIn b)) t ≡ keptThreads? ks ts (ids (keptIn b)) 32)
 
 abbrev μ-loop : tie.MeasureT-loop
-μ-loop ks ts kept t₀ t = t
+μ-loop ks ts b t₀ t = t
 
 loop-holds : tie.Need-loop-holds Inv-loop μ-loop
 loop-holds c = (search needs, refl)
 
-sub-k : tie.Need-sub-k Inv-loop μ-loop
-sub-k c = search needs
+sub-kept-at : tie.Need-sub-kept-at Inv-loop μ-loop
+sub-kept-at c = search needs
 
-cast-k : tie.Need-cast-k Inv-loop μ-loop
-cast-k c = search needs
+cast-kept-at : tie.Need-cast-kept-at Inv-loop μ-loop
+cast-kept-at c = search needs
 
-mul-k : tie.Need-mul-k Inv-loop μ-loop
-mul-k c = search needs
-
-array-copy-out-k : tie.Need-array-copy-out-k Inv-loop μ-loop
-array-copy-out-k c = search needs
+kept-at-requires : tie.Need-kept-at-requires Inv-loop μ-loop
+kept-at-requires c κs = search needs
 
 slot-index-requires : tie.Need-slot-index-requires Inv-loop μ-loop
 slot-index-requires c κs = search needs
@@ -58,11 +54,12 @@ kept-thread-requires c κs = search needs
 returns : tie.Need-returns Inv-loop μ-loop
 returns c =
     let h = c .before in
-    let x = h .before .before .before in
-    let l = x .before .before .before .loop in
-    let s = x .before .before .before .before in
-    let e = rw (x .slot-index .ensures .0) at (h .kept-thread .ensures) in
-    sym (kept-step _ _ (s .args .t3) (l .t) (x .before .before .loop-test .taken) ∙ and-no _ _ (sym e ∙ not-true _ (c .if1 .taken))) ∙ l .inv .1
+    let x = c .before .before .before .before in
+    let l = c .before .before .before .before .before .before .before .loop in
+    let b = c .before .before .before .before .before .before .before .before .before .args .b .now in
+    let k = c .before .before .before .before .before .kept-at .ensures ∙ row-at decId 4 (record { 0 = 0 }) 32 b 13184 (l .t - 1) (omega arith) in
+    let e = rw (x .slot-index .ensures .0, k) at (h .kept-thread .ensures) in
+    sym (kept-step _ _ (keptIn b) (l .t) (c .before .before .before .before .before .before .loop-test .taken) ∙ and-no _ _ (sym e ∙ not-true _ (c .if1 .taken))) ∙ l .inv .1
 
 sub-t : tie.Need-sub-t Inv-loop μ-loop
 sub-t c = search needs
@@ -73,11 +70,12 @@ loop-less c = search needs
 loop-again : tie.Need-loop-again Inv-loop μ-loop
 loop-again c =
     let h = c .before in
-    let x = h .before .before .before in
-    let l = x .before .before .before .loop in
-    let s = x .before .before .before .before in
-    let e = rw (x .slot-index .ensures .0) at (h .kept-thread .ensures) in
-    (search needs, sym (kept-step _ _ (s .args .t3) (l .t) (x .before .before .loop-test .taken) ∙ and-yes _ _ (sym e ∙ not-false _ (c .if1 .left))) ∙ l .inv .1)
+    let x = c .before .before .before .before in
+    let l = c .before .before .before .before .before .before .before .loop in
+    let b = c .before .before .before .before .before .before .before .before .before .args .b .now in
+    let k = c .before .before .before .before .before .kept-at .ensures ∙ row-at decId 4 (record { 0 = 0 }) 32 b 13184 (l .t - 1) (omega arith) in
+    let e = rw (x .slot-index .ensures .0, k) at (h .kept-thread .ensures) in
+    (search needs, sym (kept-step _ _ (keptIn b) (l .t) (c .before .before .before .before .before .before .loop-test .taken) ∙ and-yes _ _ (sym e ∙ not-false _ (c .if1 .left))) ∙ l .inv .1)
 
 returns-2 : tie.Need-returns-2 Inv-loop μ-loop
 returns-2 c = sym (kept-end _ _ _ _ (c .loop-test .left)) ∙ c .before .loop .inv .1
@@ -89,10 +87,9 @@ kept-threads-ok-spec =
     Inv-loop
     μ-loop
     loop-holds
-    sub-k
-    cast-k
-    mul-k
-    array-copy-out-k
+    sub-kept-at
+    cast-kept-at
+    kept-at-requires
     slot-index-requires
     mul-kept-thread
     element-copy-out-kept-thread

@@ -1,5 +1,6 @@
 use mathlib.Core.Path.{_≡_, refl, sym, _∙_}
 use Prim.Native.Nat.{_≤_}
+use lib.ListN.{take}
 use borrow.Author.Tests.{not-true, not-false}
 use Rattle.laws.specs.Logic.{and-no, and-yes}
 use Rattle.question.specs.LinearObjects.{chainsBy?}
@@ -9,7 +10,11 @@ use Rattle.question.proofs.records.chains_ok.Statement.{statement}
 use Rattle.question.proofs.records.chains_ok.Tie as tie
 
 abbrev Inv-loop : tie.InvT-loop
-Inv-loop nx ts ad n hs o₀ o = (o ≤ 128) × (chainsBy? nx ts ad n hs o ≡ chainsBy? nx ts ad n hs 128)
+Inv-loop nx ts ad n hs o₀ o =
+    let x = take 64 nx in
+    let t = take 64 ts in
+    let a = take 64 ad in
+    (o ≤ 128) × (chainsBy? x t a n hs o ≡ chainsBy? x t a n hs 128)
 
 abbrev μ-loop : tie.MeasureT-loop
 μ-loop nx ts ad n hs o₀ o = o
@@ -23,16 +28,16 @@ sub-chain-ok c = search needs
 mul-chain-ok : tie.Need-mul-chain-ok Inv-loop μ-loop
 mul-chain-ok c = search needs
 
-array-read-chain-ok : tie.Need-array-read-chain-ok Inv-loop μ-loop
-array-read-chain-ok c = search needs
+element-copy-out-chain-ok : tie.Need-element-copy-out-chain-ok Inv-loop μ-loop
+element-copy-out-chain-ok c = search needs
 
 chain-ok-requires : tie.Need-chain-ok-requires Inv-loop μ-loop
 chain-ok-requires c κs = search needs
 
 returns : tie.Need-returns Inv-loop μ-loop
 returns c =
-    let l = c .before .before .before .loop in
-    sym (chains-step _ _ _ _ _ (l .o) (c .before .before .loop-test .taken) ∙ and-no _ _ (sym (c .before .chain-ok .ensures) ∙ not-true _ (c .if1 .taken))) ∙ l .inv .1
+    let l = c .before .before .before .before .loop in
+    sym (chains-step _ _ _ _ _ (l .o) (c .before .before .before .loop-test .taken) ∙ and-no _ _ (sym (c .before .chain-ok .ensures) ∙ not-true _ (c .if1 .taken))) ∙ l .inv .1
 
 sub-o : tie.Need-sub-o Inv-loop μ-loop
 sub-o c = search needs
@@ -42,8 +47,8 @@ loop-less c = search needs
 
 loop-again : tie.Need-loop-again Inv-loop μ-loop
 loop-again c =
-    let l = c .before .before .before .loop in
-    (search needs, sym (chains-step _ _ _ _ _ (l .o) (c .before .before .loop-test .taken) ∙ and-yes _ _ (sym (c .before .chain-ok .ensures) ∙ not-false _ (c .if1 .left))) ∙ l .inv .1)
+    let l = c .before .before .before .before .loop in
+    (search needs, sym (chains-step _ _ _ _ _ (l .o) (c .before .before .before .loop-test .taken) ∙ and-yes _ _ (sym (c .before .chain-ok .ensures) ∙ not-false _ (c .if1 .left))) ∙ l .inv .1)
 
 returns-2 : tie.Need-returns-2 Inv-loop μ-loop
 returns-2 c = sym (chains-end _ _ _ _ _ _ (c .loop-test .left)) ∙ c .before .loop .inv .1
@@ -57,7 +62,7 @@ chains-ok-spec =
     loop-holds
     sub-chain-ok
     mul-chain-ok
-    array-read-chain-ok
+    element-copy-out-chain-ok
     chain-ok-requires
     returns
     sub-o

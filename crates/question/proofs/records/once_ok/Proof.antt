@@ -20,13 +20,13 @@ loop-holds c = (search needs, refl)
 mul-if1 : tie.Need-mul-if1 Inv-loop μ-loop
 mul-if1 c = search needs
 
-array-read-if1 : tie.Need-array-read-if1 Inv-loop μ-loop
-array-read-if1 c = search needs
+element-copy-out-if1 : tie.Need-element-copy-out-if1 Inv-loop μ-loop
+element-copy-out-if1 c = search needs
 
 returns : tie.Need-returns Inv-loop μ-loop
 returns c =
-    let l = c .before .before .loop in
-    sym (once-step _ (l .i) (c .before .loop-test .taken) ∙ and-no _ _ (ne-eqb _ _ (c .if1 .taken))) ∙ l .inv .1
+    let l = c .before .before .before .loop in
+    sym (once-step _ (l .i) (c .before .before .loop-test .taken) ∙ and-no _ _ (ne-eqb _ _ (c .if1 .taken))) ∙ l .inv .1
 
 sub-i : tie.Need-sub-i Inv-loop μ-loop
 sub-i c = search needs
@@ -36,8 +36,8 @@ loop-less c = search needs
 
 loop-again : tie.Need-loop-again Inv-loop μ-loop
 loop-again c =
-    let l = c .before .before .loop in
-    (search needs, sym (once-step _ (l .i) (c .before .loop-test .taken) ∙ and-yes _ _ (eq-eqb _ _ (c .if1 .left))) ∙ l .inv .1)
+    let l = c .before .before .before .loop in
+    (search needs, sym (once-step _ (l .i) (c .before .before .loop-test .taken) ∙ and-yes _ _ (eq-eqb _ _ (c .if1 .left))) ∙ l .inv .1)
 
 returns-2 : tie.Need-returns-2 Inv-loop μ-loop
 returns-2 c = sym (once-end _ _ (c .loop-test .left)) ∙ c .before .loop .inv .1
@@ -50,7 +50,7 @@ once-ok-spec =
     μ-loop
     loop-holds
     mul-if1
-    array-read-if1
+    element-copy-out-if1
     returns
     sub-i
     loop-less

@@ -1,37 +1,33 @@
-use mathlib.Core.Path.{_≡_, refl, sym, _∙_}
-use Prim.Native.Nat.{_+_, _-_, _≤_, _<_}
+use mathlib.Core.Path.{_≡_, refl, sym, ap, _∙_}
+use Prim.Native.Nat.{_-_, _≤_, _<_}
 use native.Mathlib.Omega.{arith}
-use borrow.Author.Tests.{lt-ltb, le-ltb, eq-eqb, ne-eqb, le-leb, lt-leb, not-true, not-false}
+use borrow.Author.Tests.{not-true, not-false}
 use Rattle.laws.specs.Logic.{and-no, and-yes}
 use Rattle.laws.specs.Numbers.{allBelow, allTo-step, allTo-end}
-use Rattle.sound.specs.View.{threadAt}
+use Rattle.block.specs.Thread.{decThread}
+use Rattle.block.specs.Tables.{threadsIn, row-at}
+use Rattle.sound.specs.View.{noThread, threadAt}
 use Rattle.sound.specs.Threads.{place?}
 use Rattle.question.specs.Linear.{places32?}
 use borrow.Author.Needs.{needs}
 use Rattle.question.proofs.threads.all_places_ok.Statement.{statement}
 use Rattle.question.proofs.threads.all_places_ok.Tie as tie
-use Rattle.question.proofs.threads.all_places_ok.Reads as reads
-use Rattle.question.proofs.threads.all_places_ok.Lts as lts
-use Rattle.question.proofs.threads.place_ok.Reads as place-ok-reads
 
 abbrev Inv-loop : tie.InvT-loop
-Inv-loop n c ts i₀ i = (i ≤ 32) × (allBelow i (λ k. place? n c k (threadAt ts k)) ≡ places32? n c ts)
+Inv-loop n c b i₀ i = (i ≤ 32) × (allBelow i (λ k. place? n c k (threadAt (threadsIn b) k)) ≡ places32? n c (threadsIn b))
 
 abbrev μ-loop : tie.MeasureT-loop
-μ-loop n c ts i₀ i = i
+μ-loop n c b i₀ i = i
 
 loop-holds : tie.Need-loop-holds Inv-loop μ-loop
 unfolding places32?
 loop-holds c = (search needs, refl)
 
-sub-t : tie.Need-sub-t Inv-loop μ-loop
-sub-t c = search needs
+sub-thread-at : tie.Need-sub-thread-at Inv-loop μ-loop
+sub-thread-at c = search needs
 
-mul-t : tie.Need-mul-t Inv-loop μ-loop
-mul-t c = search needs
-
-array-copy-out-t : tie.Need-array-copy-out-t Inv-loop μ-loop
-array-copy-out-t c = search needs
+thread-at-requires : tie.Need-thread-at-requires Inv-loop μ-loop
+thread-at-requires c κs = search needs
 
 sub-place-ok : tie.Need-sub-place-ok Inv-loop μ-loop
 sub-place-ok c = search needs
@@ -45,7 +41,9 @@ place-ok-requires c κs = search needs
 returns : tie.Need-returns Inv-loop μ-loop
 returns c =
     let l = c .before .before .before .before .loop in
-    sym (allTo-step _ (l .i) (c .before .before .before .loop-test .taken) ∙ and-no _ _ (sym (c .before .place-ok .ensures) ∙ not-true _ (c .if1 .taken))) ∙ l .inv .1
+    let a = c .before .before .before .before .before .before .args in
+    let t = c .before .before .thread-at .ensures ∙ row-at decThread 160 noThread 32 (a .b .now) 128 (l .i - 1) (omega arith) in
+    sym (allTo-step _ (l .i) (c .before .before .before .loop-test .taken) ∙ and-no _ _ (ap (place? (a .n) (a .c) (l .i - 1)) (sym t) ∙ sym (c .before .place-ok .ensures) ∙ not-true _ (c .if1 .taken))) ∙ l .inv .1
 
 sub-i : tie.Need-sub-i Inv-loop μ-loop
 sub-i c = search needs
@@ -56,7 +54,9 @@ loop-less c = search needs
 loop-again : tie.Need-loop-again Inv-loop μ-loop
 loop-again c =
     let l = c .before .before .before .before .loop in
-    (search needs, sym (allTo-step _ (l .i) (c .before .before .before .loop-test .taken) ∙ and-yes _ _ (sym (c .before .place-ok .ensures) ∙ not-false _ (c .if1 .left))) ∙ l .inv .1)
+    let a = c .before .before .before .before .before .before .args in
+    let t = c .before .before .thread-at .ensures ∙ row-at decThread 160 noThread 32 (a .b .now) 128 (l .i - 1) (omega arith) in
+    (search needs, sym (allTo-step _ (l .i) (c .before .before .before .loop-test .taken) ∙ and-yes _ _ (ap (place? (a .n) (a .c) (l .i - 1)) (sym t) ∙ sym (c .before .place-ok .ensures) ∙ not-false _ (c .if1 .left))) ∙ l .inv .1)
 
 returns-2 : tie.Need-returns-2 Inv-loop μ-loop
 returns-2 c =
@@ -70,9 +70,8 @@ all-places-ok-spec =
     Inv-loop
     μ-loop
     loop-holds
-    sub-t
-    mul-t
-    array-copy-out-t
+    sub-thread-at
+    thread-at-requires
     sub-place-ok
     cast-place-ok
     place-ok-requires

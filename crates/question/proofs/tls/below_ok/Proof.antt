@@ -1,32 +1,32 @@
 use mathlib.Core.Path.{_≡_, refl, ap, sym, _∙_}
-use Prim.Native.Nat.{_+_, _-_, _≤_, _<_}
+use Prim.Native.Nat.{_-_, _≤_, _<_}
 use native.Mathlib.Omega.{arith}
 use lib.ListN.{length, drop}
-use borrow.Author.Tests.{lt-ltb, le-ltb, eq-eqb, ne-eqb, le-leb, lt-leb, not-true, not-false}
+use borrow.Author.Tests.{not-true, not-false}
 use Rattle.laws.specs.Logic.{and-no, and-yes}
+use Rattle.block.specs.Thread.{decThread}
+use Rattle.block.specs.Tables.{threadsIn, row-at}
+use Rattle.codec.proofs.Fit.{length-decAll}
+use Rattle.types.specs.declared.thread.Thread.{Thread}
+use Rattle.sound.specs.View.{noThread}
 use Rattle.sound.specs.Tls.{held, held-end, below?}
+use Rattle.tally.specs.Lists.{slotOf}
 use Rattle.question.proofs.Steps.{below-held}
 use borrow.Author.Needs.{needs}
 use Rattle.question.proofs.tls.below_ok.Statement.{statement}
 use Rattle.question.proofs.tls.below_ok.Tie as tie
-use Rattle.question.proofs.tls.below_ok.Reads as reads
-use Rattle.question.proofs.tls.below_ok.Lts as lts
-use Rattle.question.proofs.tls.slot_below.Reads as slot-below-reads
 
 abbrev Inv-loop : tie.InvT-loop
-Inv-loop next ts i₀ i = (i ≤ 32) × (below? next (held (drop i ts)) ≡ below? next (held ts))
+Inv-loop next b i₀ i = (i ≤ 32) × (below? next (held (drop i (threadsIn b))) ≡ below? next (held (threadsIn b)))
 
 abbrev μ-loop : tie.MeasureT-loop
-μ-loop next ts i₀ i = 32 - i
+μ-loop next b i₀ i = 32 - i
 
 loop-holds : tie.Need-loop-holds Inv-loop μ-loop
 loop-holds c = (search needs, refl)
 
-mul-slot-below : tie.Need-mul-slot-below Inv-loop μ-loop
-mul-slot-below c = search needs
-
-array-copy-out-slot-below : tie.Need-array-copy-out-slot-below Inv-loop μ-loop
-array-copy-out-slot-below c = search needs
+thread-at-requires : tie.Need-thread-at-requires Inv-loop μ-loop
+thread-at-requires c κs = search needs
 
 slot-below-requires : tie.Need-slot-below-requires Inv-loop μ-loop
 slot-below-requires c κs = search needs
@@ -34,10 +34,12 @@ slot-below-requires c κs = search needs
 returns : tie.Need-returns Inv-loop μ-loop
 returns c =
     let l = c .before .before .before .before .loop in
-    let s = c .before .before .before .before .before in
-    let n : length (s .args .t2) ≡ 32 = omega (arith, s .good) in
-    let h : l .i < length (s .args .t2) = omega arith in
-    sym (below-held (s .args .t2) (l .i) h (s .args .next) ∙ and-no _ _ (sym (c .before .slot-below .ensures) ∙ not-true _ (c .if1 .taken))) ∙ l .inv .1
+    let a = c .before .before .before .before .before .before .args in
+    let b = a .b .now in
+    let n : length (threadsIn b) ≡ 32 = length-decAll decThread 160 32 b 128 in
+    let h : l .i < length (threadsIn b) = omega arith in
+    let t = c .before .before .thread-at .ensures ∙ row-at decThread 160 noThread 32 b 128 (l .i) (omega arith) in
+    sym (below-held (threadsIn b) (l .i) h (a .next) ∙ and-no _ _ (ap (λ (x : Thread). below? (a .next) (slotOf x)) (sym t) ∙ sym (c .before .slot-below .ensures) ∙ not-true _ (c .if1 .taken))) ∙ l .inv .1
 
 add-i : tie.Need-add-i Inv-loop μ-loop
 add-i c = search needs
@@ -48,18 +50,20 @@ loop-less c = search needs
 loop-again : tie.Need-loop-again Inv-loop μ-loop
 loop-again c =
     let l = c .before .before .before .before .loop in
-    let s = c .before .before .before .before .before in
-    let n : length (s .args .t2) ≡ 32 = omega (arith, s .good) in
-    let h : l .i < length (s .args .t2) = omega arith in
-    (search needs, sym (below-held (s .args .t2) (l .i) h (s .args .next) ∙ and-yes _ _ (sym (c .before .slot-below .ensures) ∙ not-false _ (c .if1 .left))) ∙ l .inv .1)
+    let a = c .before .before .before .before .before .before .args in
+    let b = a .b .now in
+    let n : length (threadsIn b) ≡ 32 = length-decAll decThread 160 32 b 128 in
+    let h : l .i < length (threadsIn b) = omega arith in
+    let t = c .before .before .thread-at .ensures ∙ row-at decThread 160 noThread 32 b 128 (l .i) (omega arith) in
+    (search needs, sym (below-held (threadsIn b) (l .i) h (a .next) ∙ and-yes _ _ (ap (λ (x : Thread). below? (a .next) (slotOf x)) (sym t) ∙ sym (c .before .slot-below .ensures) ∙ not-false _ (c .if1 .left))) ∙ l .inv .1)
 
 returns-2 : tie.Need-returns-2 Inv-loop μ-loop
 unfolding below?
 returns-2 c =
     let l = c .before .loop in
-    let s = c .before .before in
-    let e : length (s .args .t2) ≤ l .i = omega (arith, s .good) in
-    sym (ap (below? (s .args .next)) (held-end (s .args .t2) (l .i) e)) ∙ l .inv .1
+    let a = c .before .before .before .args in
+    let e : length (threadsIn (a .b .now)) ≤ l .i = omega (arith, length-decAll decThread 160 32 (a .b .now) 128) in
+    sym (ap (below? (a .next)) (held-end (threadsIn (a .b .now)) (l .i) e)) ∙ l .inv .1
 
 pub below-ok-spec : {M : Type 1} → statement M
 below-ok-spec =
@@ -68,8 +72,7 @@ below-ok-spec =
     Inv-loop
     μ-loop
     loop-holds
-    mul-slot-below
-    array-copy-out-slot-below
+    thread-at-requires
     slot-below-requires
     returns
     add-i

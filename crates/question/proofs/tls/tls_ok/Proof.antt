@@ -1,3 +1,6 @@
+use Rattle.codec.proofs.Fit.{length-decAll}
+use Rattle.block.specs.Thread.{decThread}
+use Rattle.block.specs.Tables.{threadsIn}
 use mathlib.Core.Path.{_≡_, refl, ap, sym, _∙_}
 use borrow.Author.Tests.{lt-ltb, le-ltb, eq-eqb, ne-eqb, le-leb, lt-leb, not-true, not-false}
 use lib.ListN.{replicate}
@@ -35,9 +38,9 @@ returns-3 : tie.Need-returns-3
 unfolding tls?
 returns-3 c =
     let t = c .before in
-    let s = c .before .before .before .before .before .before in
+    let s = c .before .before .before .before .before .before .before in
     sym (and-yes _ _ (le-leb _ 32 (c .before .before .before .before .before .if1 .left)) ∙ and-yes _ _ (sym (c .before .before .before .before .below-ok .ensures) ∙ not-false _ (c .before .before .before .if2 .left))
-    ∙ sym (c .once-ok .ensures ∙ ap once32? (t .tally-tls .ensures .0) ∙ once-is (s .args .ts) (t .tally-tls .ensures .1)))
+    ∙ sym (c .once-ok .ensures ∙ ap once32? (t .tally-tls .ensures) ∙ once-is (threadsIn (s .args .b .now)) (length-decAll decThread 160 32 (s .args .b .now) 128)))
 
 pub tls-ok-spec : {M : Type 1} → statement M
 tls-ok-spec =
