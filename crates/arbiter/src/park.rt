@@ -72,7 +72,7 @@ fn over_below(before: bool, decrements: bool, word: u32) -> bool
 fn parked(t: Thread, a: u32, wake: TickOption) -> Thread
     ensures { λ r. ⌜ r ≡ def.parked t a wake ⌝ }
 {
-    let c = thread::thread::clear_wait(t);
+    let c = thread::thread::without_wait(t);
     let list = c.wait_objects;
     let since = c.running_since;
     let result = c.wait_result;

@@ -325,7 +325,7 @@ fn woken_up(t: Thread) -> Thread
     ensures { λ r. ⌜ r ≡ def.wokenUp t ⌝ }
 {
     let call = t.wait_syscall;
-    let c = thread::thread::clear_wait(t);
+    let c = thread::thread::without_wait(t);
     let d = thread::thread::with_result(c, WaitResult::Signaled(0), call);
     thread::thread::with_status(d, ThreadStatus::Ready)
 }

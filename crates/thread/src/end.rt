@@ -28,7 +28,7 @@ fn put_cleared(ts: [Thread; 32], t: u32) -> [Thread; 32]
     }
     let i = t as usize;
     let mut l = ts;
-    l[i] = thread::clear_wait(l[i]);
+    l[i] = thread::without_wait(l[i]);
     l
 }
 
@@ -135,7 +135,7 @@ fn ended(t: Thread) -> Thread
     ensures { λ r. ⌜ r ≡ def.ended (clearWait t) ⌝ }
 {
     thread::with_result(
-        thread::with_status(thread::clear_wait(t), ThreadStatus::Dead),
+        thread::with_status(thread::without_wait(t), ThreadStatus::Dead),
         WaitResult::NoResult,
         WaitSyscall::NoSyscall,
     )

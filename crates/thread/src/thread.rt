@@ -69,10 +69,12 @@ pub fn new_context(word: u32, entry: u32, stack_top: u32, arg: u32, tls: u32) ->
 }
 
 // Everything that a wait left behind goes.
-pub fn clear_wait(t: Thread) -> Thread
+fn cleared(t: Thread) -> Thread
     ensures { λ r. ⌜ r ≡ clearWait t ⌝ }
 {
     let none = ObjectId(0);
+    let wake = TickOption::NoTick;
+    let address = AddressOption::NoAddress;
     let status = t.status;
     let since = t.running_since;
     let result = t.wait_result;
@@ -87,14 +89,30 @@ pub fn clear_wait(t: Thread) -> Thread
         wait_objects: [none; 8],
         wait_count: 0,
         wait_all: false,
-        wakeup_at: TickOption::NoTick,
+        wakeup_at: wake,
         running_since: since,
         waited: t.waited,
-        wait_address: AddressOption::NoAddress,
+        wait_address: address,
         wait_result: result,
         wait_syscall: call,
         guest_id: t.guest_id,
     }
+}
+
+// The same in the caller's own copy.
+pub fn clear_wait(t: &mut Thread)
+    ensures { λ _. ⌜ now (t .exit) ≡ clearWait (now (t .entry)) ⌝ }
+{
+    *t = cleared(*t);
+}
+
+// For callers by value: a function that lends a record needs a proof by hand, and this one has it.
+pub fn without_wait(t: Thread) -> Thread
+    ensures { λ r. ⌜ r ≡ clearWait t ⌝ }
+{
+    let mut u = t;
+    clear_wait(&mut u);
+    u
 }
 
 pub fn with_status(t: Thread, status: ThreadStatus) -> Thread

@@ -135,7 +135,7 @@ pub fn begin_wait(
 fn sleeping(t: Thread, wake: u64) -> Thread
     ensures { λ r. ⌜ r ≡ def.sleeping t wake ⌝ }
 {
-    let c = thread::thread::clear_wait(t);
+    let c = thread::thread::without_wait(t);
     let list = c.wait_objects;
     let since = c.running_since;
     let address = c.wait_address;

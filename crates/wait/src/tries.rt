@@ -26,7 +26,7 @@ fn woken(t: Thread, r: WaitResult) -> Thread
     ensures { λ v. ⌜ v ≡ awakened t r ⌝ }
 {
     let call = t.wait_syscall;
-    let c = thread::thread::clear_wait(t);
+    let c = thread::thread::without_wait(t);
     let d = thread::thread::with_result(c, r, call);
     thread::thread::with_status(d, ThreadStatus::Ready)
 }

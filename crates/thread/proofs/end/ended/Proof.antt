@@ -3,13 +3,13 @@ use Rattle.thread.proofs.end.ended.Statement.{statement}
 use Rattle.thread.proofs.end.ended.Tie as tie
 use Rattle.thread.proofs.end.ended.Reads as reads
 use Rattle.thread.proofs.end.ended.Lts as lts
-use Rattle.thread.proofs.thread.clear_wait.Reads as clear-wait-reads
+use Rattle.thread.proofs.thread.without_wait.Reads as without-wait-reads
 use Rattle.thread.proofs.thread.with_result.Reads as with-result-reads
 use Rattle.thread.proofs.thread.with_status.Reads as with-status-reads
 
 -- src/end.rt:138:29
-clear-wait-requires : tie.Need-clear-wait-requires
-clear-wait-requires c κs = search needs
+without-wait-requires : tie.Need-without-wait-requires
+without-wait-requires c κs = search needs
 
 -- src/end.rt:138:9
 with-status-requires : tie.Need-with-status-requires
@@ -21,8 +21,8 @@ with-result-requires c κs = search needs
 
 -- src/end.rt:134:1
 returns : tie.Need-returns
-returns c = rw (c .with-result .ensures, c .before .with-status .ensures, c .before .before .clear-wait .ensures)
+returns c = rw (c .with-result .ensures, c .before .with-status .ensures, c .before .before .without-wait .ensures)
 
 pub ended-spec : {M : Type 1} → statement M
 ended-spec =
-    tie.close (tie.spec clear-wait-requires with-status-requires with-result-requires returns)
+    tie.close (tie.spec without-wait-requires with-status-requires with-result-requires returns)

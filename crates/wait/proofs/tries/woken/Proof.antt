@@ -8,12 +8,12 @@ use Rattle.wait.proofs.tries.woken.Statement.{statement}
 use Rattle.wait.proofs.tries.woken.Tie as tie
 use Rattle.wait.proofs.tries.woken.Reads as reads
 use Rattle.wait.proofs.tries.woken.Lts as lts
-use Rattle.thread.proofs.thread.clear_wait.Reads as clear-wait-reads
+use Rattle.thread.proofs.thread.without_wait.Reads as without-wait-reads
 use Rattle.thread.proofs.thread.with_result.Reads as with-result-reads
 use Rattle.thread.proofs.thread.with_status.Reads as with-status-reads
 
-clear-wait-requires : tie.Need-clear-wait-requires
-clear-wait-requires c κs = search needs
+without-wait-requires : tie.Need-without-wait-requires
+without-wait-requires c κs = search needs
 
 with-result-requires : tie.Need-with-result-requires
 with-result-requires c κs = search needs
@@ -22,8 +22,8 @@ with-status-requires : tie.Need-with-status-requires
 with-status-requires c κs = search needs
 
 returns : tie.Need-returns
-returns c = c .with-status .ensures ∙ rw (c .before .with-result .ensures, c .before .before .clear-wait .ensures)
+returns c = c .with-status .ensures ∙ rw (c .before .with-result .ensures, c .before .before .without-wait .ensures)
 
 pub woken-spec : {M : Type 1} → statement M
 woken-spec =
-    tie.close (tie.spec clear-wait-requires with-result-requires with-status-requires returns)
+    tie.close (tie.spec without-wait-requires with-result-requires with-status-requires returns)
