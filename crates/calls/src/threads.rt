@@ -68,7 +68,7 @@ fn sleep_ticks(k: Kernel, nanos: u64, tick: u64) -> TickOption
     }
     let current = k.current_thread;
     let ts = k.threads;
-    if scheduler::pick::others_ready(current, ts) {
+    if pick::others_ready(current, ts) {
         return TickOption::SomeTick(Ticks(20000));
     }
     let at = kernel::next_event::next_event(k);

@@ -36,7 +36,7 @@ fn is_running_at(ts: [Thread; 32], c: u32) -> bool
     }
     let t = ts[c as usize];
     let s = t.status;
-    scheduler::pick::is_running(s)
+    pick::is_running(s)
 }
 
 fn runs_as(current: ThreadOption, ts: [Thread; 32]) -> bool

@@ -1,5 +1,4 @@
--- The choice, the switch and a quiet release as they are computed.
-pub mod Best
+-- The switch and a quiet release as they are computed.
 pub mod Switch
 pub mod Place
 pub mod Alone

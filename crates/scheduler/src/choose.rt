@@ -1,5 +1,4 @@
 // The choice after the tries: first pick, starving, relief, stand-in, switch.
-use crate::pick;
 use crate::run;
 use pass::Passed;
 use types::kernel::Kernel;
@@ -10,7 +9,7 @@ ghost use mathlib.Core.Path.{_≡_};
 ghost use mathlib.Core.Bool.{not};
 ghost use Rattle.laws.specs.Logic.{pick, _and_};
 ghost use Rattle.sound.specs.View.{threadAt};
-ghost use Rattle.pass.specs.Pick.{pickNext};
+ghost use Rattle.pass.specs.Pick.{orElse};
 ghost use Rattle.pass.specs.Schedule as def;
 ghost use Rattle.scheduler.specs.Switch as computed;
 
@@ -24,12 +23,21 @@ pub fn priority_at(ts: [Thread; 32], t: u32) -> u32
     v.priority
 }
 
+fn or_else(first: ThreadOption, other: ThreadOption) -> ThreadOption
+    ensures { λ r. ⌜ r ≡ orElse first other ⌝ }
+{
+    match first {
+        ThreadOption::NoThread => other,
+        ThreadOption::SomeThread(t) => ThreadOption::SomeThread(t),
+    }
+}
+
 fn stand_in_at(ts: [Thread; 32], t: u32) -> ThreadOption
     ensures { λ r. ⌜ r ≡ def.standIn ts (ThreadOption.SomeThread t) ⌝ }
 {
     let p = priority_at(ts, t);
     let other = pick::pick_other(ts, t, p);
-    pick::or_else(other, ThreadOption::SomeThread(t))
+    or_else(other, ThreadOption::SomeThread(t))
 }
 
 fn stand_in(ts: [Thread; 32], first: ThreadOption) -> ThreadOption

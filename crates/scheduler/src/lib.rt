@@ -1,6 +1,5 @@
 // The pass (`schedule`).
 pub mod choose;
-pub mod pick;
 pub mod quiet;
 pub mod run;
 pub mod schedule;

@@ -1,6 +1,5 @@
 // What letting go of a mutex would do without a pass (`quiet_release`).
 use crate::choose;
-use crate::pick;
 use crate::run;
 use object::slots;
 use pass::Release;

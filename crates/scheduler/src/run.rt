@@ -1,5 +1,4 @@
 // How long a thread has run, and who has the core.
-use crate::pick;
 use types::thread::Thread;
 use types::thread::ThreadOption;
 use types::thread::ThreadStatus;

@@ -1,5 +1,5 @@
 use native.Mathlib.Omega.{arith}
-use Rattle.scheduler.proofs.Steps.{far}
+use Rattle.pick.proofs.Steps.{far}
 use borrow.Author.Needs.{needs}
 use Rattle.calls.proofs.collect.result_at.Statement.{statement}
 use Rattle.calls.proofs.collect.result_at.Tie as tie

@@ -1,5 +1,5 @@
 use native.Mathlib.Omega.{arith}
-use Rattle.scheduler.proofs.Steps.{far}
+use Rattle.pick.proofs.Steps.{far}
 use borrow.Author.Needs.{needs}
 use Rattle.dispatch.proofs.questions.is_running_at.Statement.{statement}
 use Rattle.dispatch.proofs.questions.is_running_at.Tie as tie

@@ -16,7 +16,7 @@ use Rattle.scheduler.proofs.choose.is_none.Reads as is-none-reads
 use Rattle.scheduler.proofs.choose.stays.Reads as stays-reads
 use Rattle.scheduler.proofs.choose.switches.Reads as switches-reads
 use Rattle.scheduler.proofs.choose.unless.Reads as unless-reads
-use Rattle.scheduler.proofs.pick.pick_next.Reads as pick-next-reads
+use Rattle.pick.proofs.pick_next.Reads as pick-next-reads
 use Rattle.scheduler.proofs.run.begin_run.Reads as begin-run-reads
 use Rattle.scheduler.proofs.run.leave_core.Reads as leave-core-reads
 use Rattle.scheduler.proofs.run.mark_waited.Reads as mark-waited-reads

@@ -1,5 +1,5 @@
 use mathlib.Core.Path.{_≡_, refl, ap, sym, _∙_}
-use Rattle.scheduler.proofs.Steps.{far}
+use Rattle.pick.proofs.Steps.{far}
 use native.Mathlib.Omega.{arith}
 use borrow.Author.Needs.{needs}
 use Rattle.scheduler.proofs.choose.priority_at.Statement.{statement}

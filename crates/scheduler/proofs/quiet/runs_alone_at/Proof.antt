@@ -1,7 +1,7 @@
 use native.Mathlib.Omega.{arith}
 use borrow.Author.Needs.{needs}
 use Rattle.laws.specs.Logic.{_and_}
-use Rattle.scheduler.proofs.Steps.{far}
+use Rattle.pick.proofs.Steps.{far}
 use Rattle.scheduler.proofs.quiet.runs_alone_at.Statement.{statement}
 use Rattle.scheduler.proofs.quiet.runs_alone_at.Tie as tie
 

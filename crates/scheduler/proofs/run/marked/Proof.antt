@@ -8,7 +8,7 @@ use Rattle.scheduler.proofs.run.marked.Statement.{statement}
 use Rattle.scheduler.proofs.run.marked.Tie as tie
 use Rattle.scheduler.proofs.run.marked.Reads as reads
 use Rattle.scheduler.proofs.run.marked.Lts as lts
-use Rattle.scheduler.proofs.pick.is_runnable.Reads as is-runnable-reads
+use Rattle.pick.proofs.is_runnable.Reads as is-runnable-reads
 use Rattle.scheduler.proofs.run.with_run.Reads as with-run-reads
 
 is-runnable-requires : tie.Need-is-runnable-requires

@@ -1,0 +1,20 @@
+use borrow.Author.Needs.{needs}
+use mathlib.Core.Path.{_≡_, refl, ap, sym, _∙_}
+use Prim.Native.Nat.{_+_, _-_, _≤_, _<_}
+use native.Mathlib.Omega.{arith}
+use lib.ListN.{length, drop}
+use Rattle.laws.specs.Logic.{pick, pick-yes, pick-no, or-yes, or-no}
+use borrow.Author.Tests.{lt-ltb, le-ltb, lt-leb, le-leb, eq-eqb, ne-eqb, not-true, not-false}
+use Rattle.pick.proofs.best_place.Statement.{statement}
+use Rattle.pick.proofs.best_place.Tie as tie
+use Rattle.pick.proofs.best_place.Reads as reads
+use Rattle.pick.proofs.best_place.Lts as lts
+
+returns : tie.Need-returns
+returns c = (rw (lt-ltb _ _ (c .if1 .taken)), omega arith)
+
+returns-2 : tie.Need-returns-2
+returns-2 c = (rw (le-ltb _ _ (c .if1 .left)), omega arith)
+
+pub best-place-spec : {M : Type 1} → statement M
+best-place-spec = tie.close (tie.spec returns returns-2)

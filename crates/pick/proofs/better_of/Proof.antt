@@ -1,0 +1,18 @@
+use mathlib.Core.Path.{_≡_, refl, ap, sym, _∙_}
+use borrow.Author.Tests.{lt-ltb, le-ltb, lt-leb, le-leb, eq-eqb, ne-eqb, not-true, not-false}
+use Rattle.pick.proofs.better_of.Statement.{statement}
+use Rattle.pick.proofs.better_of.Tie as tie
+use Rattle.pick.proofs.better_of.Reads as reads
+use Rattle.pick.proofs.better_of.Lts as lts
+
+returns : tie.Need-returns
+returns c = rw (eq-eqb _ 32 (c .if1 .taken))
+
+returns-2 : tie.Need-returns-2
+returns-2 c = rw (ne-eqb _ 32 (c .before .before .before .if1 .left), lt-ltb _ _ (c .if2 .taken))
+
+returns-3 : tie.Need-returns-3
+returns-3 c = rw (ne-eqb _ 32 (c .before .before .before .if1 .left), le-ltb _ _ (c .if2 .left))
+
+pub better-of-spec : {M : Type 1} → statement M
+better-of-spec = tie.close (tie.spec returns returns-2 returns-3)

@@ -1,0 +1,25 @@
+use mathlib.Core.Path.{_≡_, refl, ap, sym, _∙_}
+use borrow.Author.Tests.{lt-ltb, le-ltb, lt-leb, le-leb, eq-eqb, ne-eqb, not-true, not-false}
+use borrow.Author.Needs.{needs}
+use Rattle.pick.proofs.better_priority.Statement.{statement}
+use Rattle.pick.proofs.better_priority.Tie as tie
+use Rattle.pick.proofs.better_priority.Reads as reads
+use Rattle.pick.proofs.better_priority.Lts as lts
+use Rattle.pick.proofs.is_runnable.Reads as is-runnable-reads
+use Rattle.thread.proofs.places.least_of.Reads as least-of-reads
+
+is-runnable-requires : tie.Need-is-runnable-requires
+is-runnable-requires c κs = search needs
+
+returns : tie.Need-returns
+returns c = rw (sym (c .before .is-runnable .ensures) ∙ not-true _ (c .if1 .taken))
+
+least-of-requires : tie.Need-least-of-requires
+least-of-requires c κs = search needs
+
+returns-2 : tie.Need-returns-2
+returns-2 c = rw (sym (c .before .before .is-runnable .ensures) ∙ not-false _ (c .before .if1 .left)) (c .least-of .ensures)
+
+pub better-priority-spec : {M : Type 1} → statement M
+better-priority-spec =
+    tie.close (tie.spec is-runnable-requires returns least-of-requires returns-2)

@@ -1,0 +1,36 @@
+use mathlib.Core.Path.{_≡_, refl, ap, sym, _∙_}
+use Rattle.pick.proofs.Steps.{far}
+use native.Mathlib.Omega.{arith}
+use Rattle.laws.specs.Logic.{_and_}
+use borrow.Author.Tests.{lt-ltb, le-ltb, lt-leb, le-leb, eq-eqb, ne-eqb, not-true, not-false}
+use borrow.Author.Needs.{needs}
+use Rattle.pick.proofs.keeps_at.Statement.{statement}
+use Rattle.pick.proofs.keeps_at.Tie as tie
+use Rattle.pick.proofs.keeps_at.Reads as reads
+use Rattle.pick.proofs.keeps_at.Lts as lts
+use Rattle.pick.proofs.is_running.Reads as is-running-reads
+
+returns : tie.Need-returns
+unfolding _and_
+returns c = rw (far (c .before .args .t1) (c .before .args .t) (omega (arith, c .before .good)))
+
+mul-v : tie.Need-mul-v
+mul-v c = search needs
+
+array-copy-out-v : tie.Need-array-copy-out-v
+array-copy-out-v c = search needs
+
+is-running-requires : tie.Need-is-running-requires
+is-running-requires c κs = search needs
+
+returns-2 : tie.Need-returns-2
+unfolding _and_
+returns-2 c = rw (sym (c .before .is-running .ensures) ∙ not-true _ (c .if2 .taken))
+
+returns-3 : tie.Need-returns-3
+unfolding _and_
+returns-3 c = rw (sym (c .before .before .is-running .ensures) ∙ not-false _ (c .before .if2 .left))
+
+pub keeps-at-spec : {M : Type 1} → statement M
+keeps-at-spec =
+    tie.close (tie.spec returns mul-v array-copy-out-v is-running-requires returns-2 returns-3)

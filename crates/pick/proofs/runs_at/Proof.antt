@@ -1,0 +1,23 @@
+use mathlib.Core.Path.{_≡_, refl, ap, sym, _∙_}
+use Rattle.laws.specs.Logic.{_and_}
+use borrow.Author.Tests.{lt-ltb, le-ltb, lt-leb, le-leb, eq-eqb, ne-eqb, not-true, not-false}
+use borrow.Author.Needs.{needs}
+use Rattle.pick.proofs.runs_at.Statement.{statement}
+use Rattle.pick.proofs.runs_at.Tie as tie
+use Rattle.pick.proofs.runs_at.Reads as reads
+use Rattle.pick.proofs.runs_at.Lts as lts
+use Rattle.pick.proofs.is_runnable.Reads as is-runnable-reads
+
+is-runnable-requires : tie.Need-is-runnable-requires
+is-runnable-requires c κs = search needs
+
+returns : tie.Need-returns
+unfolding _and_
+returns c = rw (sym (c .before .is-runnable .ensures) ∙ not-true _ (c .if1 .taken))
+
+returns-2 : tie.Need-returns-2
+unfolding _and_
+returns-2 c = rw (sym (c .before .before .is-runnable .ensures) ∙ not-false _ (c .before .if1 .left))
+
+pub runs-at-spec : {M : Type 1} → statement M
+runs-at-spec = tie.close (tie.spec is-runnable-requires returns returns-2)

@@ -1,0 +1,2 @@
+-- The stand-in as it is computed.
+pub mod Best
