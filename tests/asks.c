@@ -1,4 +1,4 @@
-/* kernel_satisfied_now and kernel_quiet_release: every length, and what they find; neither may write the block. */
+/* kernel_satisfied_now and kernel_quiet_release: what they find. */
 #include "check.h"
 #include "fresh_block.h"
 #include "host.h"
@@ -9,47 +9,7 @@
 
 #include <string.h>
 
-enum { NONE = 99, FIRST_HANDLE = 0x10000 };
-
-static const size_t block_lens[] = {KERNEL_BLOCK_LEN, 0, KERNEL_BLOCK_LEN - 1, KERNEL_BLOCK_LEN + 1};
-static const size_t list_lens[] = {0, 4, 32, 36, 1, 2, 3, 5, 33};
-static const size_t satisfied_lens[] = {KERNEL_SATISFIED_NOW_LEN, 0, 39, 41};
-static const size_t quiet_lens[] = {KERNEL_QUIET_RELEASE_LEN, 0, 11, 13, 16};
-
-static void satisfied_lengths(size_t block_len, size_t list_len, size_t answer_len, enum edge edge)
-{
-    struct lent block = lend(block_len, edge), list = lend(list_len, edge), answer = lend(answer_len, edge);
-    int right = block_len == KERNEL_BLOCK_LEN && list_len % 4 == 0 && answer_len == KERNEL_SATISFIED_NOW_LEN;
-    if (block_len == KERNEL_BLOCK_LEN)
-        fresh_block(block.at, random_word());
-    keep(&block);
-    keep(&list);
-    keep(&answer);
-    forbid_writes(&block);
-    forbid_writes(&list);
-    uint32_t number = kernel_satisfied_now(block.at, block.len, list.at, list.len, answer.at, answer.len, 0, 0);
-    check(number == (right ? KERNEL_DONE : KERNEL_LENGTH), "%zu, %zu, %zu: answer %u", block_len, list_len, answer_len, number);
-    check(right ? same_around(&answer) : same(&answer), "a byte of the answer, or around it, changed");
-    give_back(&block);
-    give_back(&list);
-    give_back(&answer);
-}
-
-static void quiet_lengths(size_t block_len, size_t answer_len, enum edge edge)
-{
-    struct lent block = lend(block_len, edge), answer = lend(answer_len, edge);
-    int right = block_len == KERNEL_BLOCK_LEN && answer_len == KERNEL_QUIET_RELEASE_LEN;
-    if (block_len == KERNEL_BLOCK_LEN)
-        fresh_block(block.at, random_word());
-    keep(&block);
-    keep(&answer);
-    forbid_writes(&block);
-    uint32_t number = kernel_quiet_release(block.at, block.len, answer.at, answer.len, FIRST_HANDLE, 0);
-    check(number == (right ? KERNEL_DONE : KERNEL_LENGTH), "%zu, %zu: answer %u", block_len, answer_len, number);
-    check(right ? same_around(&answer) : same(&answer), "a byte of the answer, or around it, changed");
-    give_back(&block);
-    give_back(&answer);
-}
+enum { NONE = 99, FIRST_HANDLE = KERNEL_FIRST_HANDLE };
 
 /* What a wait on n handles finds: the index, or NONE; the objects are those of the handles. */
 static void finds(const uint8_t *block, uint32_t n, const uint32_t *handles, const uint32_t *objects, uint32_t all, uint64_t tick, const char *what, uint32_t expected, uint32_t index)
@@ -165,17 +125,6 @@ static void quiet(void)
 
 void test_asks(void)
 {
-    group("kernel_satisfied_now, lengths");
-    for (size_t i = 0; i < sizeof block_lens / sizeof *block_lens; i++)
-        for (size_t j = 0; j < sizeof list_lens / sizeof *list_lens; j++)
-            for (size_t k = 0; k < sizeof satisfied_lens / sizeof *satisfied_lens; k++)
-                for (int edge = 0; edge < 2; edge++)
-                    satisfied_lengths(block_lens[i], list_lens[j], satisfied_lens[k], (enum edge)edge);
-    group("kernel_quiet_release, lengths");
-    for (size_t i = 0; i < sizeof block_lens / sizeof *block_lens; i++)
-        for (size_t k = 0; k < sizeof quiet_lens / sizeof *quiet_lens; k++)
-            for (int edge = 0; edge < 2; edge++)
-                quiet_lengths(block_lens[i], quiet_lens[k], (enum edge)edge);
     satisfied();
     quiet();
 }

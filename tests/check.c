@@ -3,21 +3,24 @@
 #include <stdarg.h>
 #include <stdio.h>
 
-static const char *current;
+static char current[80];
 static unsigned long passed, failed, passed_before, failed_before;
 
 static void close_group(void)
 {
-    if (current)
+    if (current[0])
         printf("%s: %lu passed, %lu failed\n", current, passed - passed_before, failed - failed_before);
     passed_before = passed;
     failed_before = failed;
 }
 
-void group(const char *name)
+void group(const char *text, ...)
 {
+    va_list args;
     close_group();
-    current = name;
+    va_start(args, text);
+    vsnprintf(current, sizeof current, text, args);
+    va_end(args);
 }
 
 void check(int holds, const char *text, ...)

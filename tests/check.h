@@ -2,8 +2,8 @@
 #ifndef CHECK_H
 #define CHECK_H
 
-/* Begins a group; the one before gets its line. */
-void group(const char *name);
+/* Begins a group with this name; the one before gets its line. */
+void group(const char *text, ...) __attribute__((format(printf, 1, 2)));
 
 /* One check. The text is printed if it failed. */
 void check(int holds, const char *text, ...) __attribute__((format(printf, 2, 3)));

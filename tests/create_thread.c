@@ -1,4 +1,4 @@
-/* kernel_create_thread: every length, no room, and the place, TLS slot, row and number of a new thread. */
+/* kernel_create_thread: the place, TLS slot, row and number of a new thread, and no room. */
 #include "check.h"
 #include "fresh_block.h"
 #include "host.h"
@@ -10,30 +10,6 @@
 #include <string.h>
 
 enum { WORD = 0x3F, TOP = 0x0FFFFFF8, ARG = 0x89ABCDEF, CORE = 0xFFFFFFFE };
-
-static const size_t block_lens[] = {KERNEL_BLOCK_LEN, 0, KERNEL_BLOCK_LEN - 1, KERNEL_BLOCK_LEN + 1};
-static const size_t bank_lens[] = {KERNEL_BANK_LEN, 0, KERNEL_CONTEXT_LEN, KERNEL_BANK_LEN - 1, KERNEL_BANK_LEN + 1};
-static const size_t answer_lens[] = {KERNEL_CREATE_THREAD_LEN, 0, 3, 5, 16};
-
-static void lengths(size_t block_len, size_t bank_len, size_t answer_len, enum edge edge)
-{
-    struct lent block = lend(block_len, edge), bank = lend(bank_len, edge), answer = lend(answer_len, edge);
-    int right = block_len == KERNEL_BLOCK_LEN && bank_len == KERNEL_BANK_LEN && answer_len == KERNEL_CREATE_THREAD_LEN;
-    if (block_len == KERNEL_BLOCK_LEN)
-        fresh_block(block.at, random_word());
-    keep(&block);
-    keep(&bank);
-    keep(&answer);
-    uint32_t number = kernel_create_thread(block.at, block.len, bank.at, bank.len, answer.at, answer.len, 0, 0, 0, 0, 0);
-    check(number == (right ? KERNEL_DONE : KERNEL_LENGTH), "%zu, %zu, %zu: answer %u", block_len, bank_len, answer_len, number);
-    if (right)
-        check(same_around(&block) && same_around(&bank) && same_around(&answer), "a byte outside what was lent changed");
-    else
-        check(same(&block) && same(&bank) && same(&answer), "%zu, %zu, %zu: a byte changed", block_len, bank_len, answer_len);
-    give_back(&block);
-    give_back(&bank);
-    give_back(&answer);
-}
 
 /* The row of a new thread, from docs/STATE.md. */
 static void row(uint8_t *at, uint32_t status_word, uint32_t entry, uint32_t tls)
@@ -114,24 +90,18 @@ static void new_places(void)
     makes(block, 0, 0, "the 33rd thread, and used up guest ids", KERNEL_FULL, NULL, 0);
 }
 
-static void refusals(void)
+static void guest_ids(void)
 {
-    group("kernel_create_thread, refusals");
+    group("kernel_create_thread, the last guest id");
     uint8_t block[KERNEL_BLOCK_LEN], after[KERNEL_BLOCK_LEN];
-    memset(block, 0, sizeof block);
-    makes(block, 0, 0, "all zero", KERNEL_UNSOUND, NULL, 0);
     fresh_block(block, WORD);
-    put32(block, NEXT_HANDLE, 0xFFFF8001);
-    makes(block, 0, 0, "used up handles", KERNEL_OVERFLOW, NULL, 0);
-    fresh_block(block, WORD);
-    put32(block, NEXT_GUEST_ID, 0xFFFFFFFF);
-    makes(block, 0, 0, "used up guest ids", KERNEL_OVERFLOW, NULL, 0);
     put32(block, NEXT_GUEST_ID, 0xFFFFFFFE);
     memcpy(after, block, sizeof block);
     record(after, 0, 1, 0, 0);
     put32(after, THREAD_COUNT, 1);
     put32(after, NEXT_TLS_SLOT, 1);
     makes(block, 1, 0, "the last guest id", KERNEL_DONE, after, 0);
+    makes(after, 1, 0, "none is left", KERNEL_OVERFLOW, NULL, 0);
 }
 
 /* Threads 0 to 3: ready, Dead and named by a handle, Dead, ready; each has a kept object but the last. */
@@ -184,13 +154,7 @@ static void places_of_dead(void)
 
 void test_create_thread(void)
 {
-    group("kernel_create_thread, lengths");
-    for (size_t i = 0; i < sizeof block_lens / sizeof *block_lens; i++)
-        for (size_t j = 0; j < sizeof bank_lens / sizeof *bank_lens; j++)
-            for (size_t k = 0; k < sizeof answer_lens / sizeof *answer_lens; k++)
-                for (int edge = 0; edge < 2; edge++)
-                    lengths(block_lens[i], bank_lens[j], answer_lens[k], (enum edge)edge);
     new_places();
-    refusals();
+    guest_ids();
     places_of_dead();
 }

@@ -1,4 +1,4 @@
-/* kernel_end_thread: every length, threads that are not there, and what goes with a thread. */
+/* kernel_end_thread: threads of every status, and what goes with a thread. */
 #include "check.h"
 #include "fresh_block.h"
 #include "host.h"
@@ -9,61 +9,22 @@
 
 #include <string.h>
 
-static const size_t block_lens[] = {KERNEL_BLOCK_LEN, 0, 1, 128, KERNEL_BLOCK_LEN - 1, KERNEL_BLOCK_LEN + 1, 2 * KERNEL_BLOCK_LEN};
-
-static void lengths(size_t block_len, enum edge edge)
-{
-    struct lent block = lend(block_len, edge);
-    int right = block_len == KERNEL_BLOCK_LEN;
-    if (right)
-        fresh_block(block.at, random_word());
-    keep(&block);
-    uint32_t number = kernel_end_thread(block.at, block.len, 0);
-    check(number == (right ? KERNEL_NO_THREAD : KERNEL_LENGTH), "block of %zu: answer %u", block_len, number);
-    check(same(&block), "block of %zu: a byte changed", block_len);
-    give_back(&block);
-}
-
-/* What ending the thread answers; after is the whole block afterwards, or NULL if nothing may change. */
-static void ends(const uint8_t *before, uint32_t thread, const char *what, uint32_t expected, const uint8_t *after)
+/* Ending the thread leaves this block, and it cannot be ended again. */
+static void ends(const uint8_t *before, uint32_t thread, const char *what, const uint8_t *after)
 {
     struct lent block = lend(KERNEL_BLOCK_LEN, BEFORE_UNMAPPED);
     memcpy(block.at, before, KERNEL_BLOCK_LEN);
     keep(&block);
     uint32_t number = kernel_end_thread(block.at, block.len, thread);
-    check(number == expected, "%s: answer %u, not %u", what, number, expected);
-    if (after == NULL) {
-        check(same(&block), "%s: refused, and a byte changed", what);
-    } else {
-        size_t at = 0;
-        while (at < KERNEL_BLOCK_LEN && block.at[at] == after[at])
-            at++;
-        check(at == KERNEL_BLOCK_LEN, "%s: byte %zu differs", what, at);
-        check(same_around(&block), "%s: a byte outside the block changed", what);
-        number = kernel_end_thread(block.at, block.len, thread);
-        check(number == KERNEL_NO_THREAD, "%s: ended twice, answer %u", what, number);
-    }
+    check(number == KERNEL_DONE, "%s: answer %u", what, number);
+    size_t at = 0;
+    while (at < KERNEL_BLOCK_LEN && block.at[at] == after[at])
+        at++;
+    check(at == KERNEL_BLOCK_LEN, "%s: byte %zu differs", what, at);
+    check(same_around(&block), "%s: a byte outside the block changed", what);
+    number = kernel_end_thread(block.at, block.len, thread);
+    check(number == KERNEL_NO_THREAD, "%s: ended twice, answer %u", what, number);
     give_back(&block);
-}
-
-static void refusals(void)
-{
-    group("kernel_end_thread, refusals");
-    static const uint32_t none[] = {2, 3, 31, 32, 33, 64, 0x7FFFFFFF, 0x80000000, 0xFFFFFFFF};
-    uint8_t block[KERNEL_BLOCK_LEN];
-    memset(block, 0, sizeof block);
-    ends(block, 0, "all zero", KERNEL_UNSOUND, NULL);
-    fresh_block(block, 0x10);
-    add_thread(block, READY);
-    add_thread(block, DEAD);
-    for (size_t i = 0; i < sizeof none / sizeof *none; i++)
-        ends(block, none[i], "no such thread", KERNEL_NO_THREAD, NULL);
-    ends(block, 1, "a Dead thread", KERNEL_NO_THREAD, NULL);
-    put32(block, NEXT_HANDLE, 0xFFFF8001);
-    ends(block, 0, "used up handles", KERNEL_OVERFLOW, NULL);
-    ends(block, 1, "a Dead thread, and used up handles", KERNEL_NO_THREAD, NULL);
-    put32(block, thread_at(0) + PRIORITY, 64);
-    ends(block, 1, "priority 64 and a Dead thread", KERNEL_UNSOUND, NULL);
 }
 
 static void statuses(void)
@@ -74,8 +35,7 @@ static void statuses(void)
         fresh_block(block, 0x10);
         add_thread(block, READY);
         uint32_t thread = add_thread(block, status);
-        put32(block, HAS_CURRENT, 1);
-        put32(block, CURRENT_THREAD, 1);
+        make_current(block, 1);
         memcpy(after, block, sizeof block);
         put32(after, thread + STATUS, DEAD);
         put32(after, HAS_CURRENT, 0);
@@ -87,24 +47,13 @@ static void statuses(void)
         put32(block, thread + HAS_WAIT_ADDRESS, 1);
         put32(block, thread + WAIT_ADDRESS, 0xFFFFFFFC);
         wake_at(block, thread, UINT64_MAX);
-        ends(block, 1, "the current thread", KERNEL_DONE, after);
+        ends(block, 1, "the current thread", after);
         /* another one stays current */
         put32(block, CURRENT_THREAD, 0);
         put32(after, HAS_CURRENT, 1);
         if (status != RUNNING)
-            ends(block, 1, "a thread that is not current", KERNEL_DONE, after);
+            ends(block, 1, "a thread that is not current", after);
     }
-}
-
-/* A mutex with a handle. */
-static uint32_t add_mutex(uint8_t *block, uint32_t owner, uint32_t count)
-{
-    uint32_t object = add_object(block, MUTEX), at = slot_at(object);
-    put32(block, at + A, 1);
-    put32(block, at + B, owner);
-    put32(block, at + C, count);
-    add_handle(block, object);
-    return object;
 }
 
 static void freed(uint8_t *after, uint32_t object)
@@ -153,17 +102,12 @@ static void holdings(void)
     put32(after, slot_at(mine) + A, 0);
     put32(after, slot_at(mine) + B, 0);
     put32(after, slot_at(mine) + C, 0);
-    ends(block, 1, "a list, records and mutexes", KERNEL_DONE, after);
+    ends(block, 1, "a list, records and mutexes", after);
     check(get32(after, slot_at(others) + B) == 0 && get32(after, slot_at(others) + C) == 2, "another thread's mutex");
 }
 
 void test_end_thread(void)
 {
-    group("kernel_end_thread, lengths");
-    for (size_t i = 0; i < sizeof block_lens / sizeof *block_lens; i++)
-        for (int edge = 0; edge < 2; edge++)
-            lengths(block_lens[i], (enum edge)edge);
-    refusals();
     statuses();
     holdings();
 }

@@ -7,8 +7,10 @@
 
 int main(void)
 {
-    /* what passed is to be seen even if a byte outside its bounds ends the program */
+    /* what passed is to be seen even if a byte outside its bounds ends the program; the guards come first, which name the call */
     setvbuf(stdout, NULL, _IOLBF, 0);
+    test_guard();
+    test_refusals();
     test_fresh_start();
     test_next_event();
     test_create_thread();

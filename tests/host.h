@@ -1,7 +1,9 @@
-/* One function for each export of the library, the two asks sharing one, and one for worked cases. */
+/* Lent memory of every length, every refusal, each export of the library (the two asks sharing one), and worked cases. */
 #ifndef HOST_H
 #define HOST_H
 
+void test_guard(void);
+void test_refusals(void);
 void test_fresh_start(void);
 void test_next_event(void);
 void test_create_thread(void);

@@ -25,22 +25,38 @@ static void must(int holds, const char *what)
     }
 }
 
-struct lent lend(size_t len, enum edge edge)
+/* Pages for len bytes that may be written, `more` bytes after them that may be read, and an unmapped page on either side. */
+static struct lent map(size_t len, size_t more)
 {
-    size_t page = (size_t)sysconf(_SC_PAGESIZE);
-    size_t pages_len = (len + page - 1) / page * page;
+    size_t page = (size_t)sysconf(_SC_PAGESIZE), pages_len = (len + page - 1) / page * page;
     if (pages_len == 0)
         pages_len = page;
-    uint8_t *all = mmap(NULL, pages_len + 2 * page, PROT_NONE, MAP_PRIVATE | MAP_ANONYMOUS, -1, 0);
+    size_t all_len = pages_len + more + 2 * page;
+    uint8_t *all = mmap(NULL, all_len, PROT_NONE, MAP_PRIVATE | MAP_ANONYMOUS | MAP_NORESERVE, -1, 0), *pages = all + page;
     must(all != MAP_FAILED, "mmap");
-    uint8_t *pages = all + page;
     must(mprotect(pages, pages_len, PROT_READ | PROT_WRITE) == 0, "mprotect");
-    for (size_t i = 0; i < pages_len; i++)
-        pages[i] = (uint8_t)(random_word() >> 8);
-    struct lent l = {edge == AFTER_UNMAPPED ? pages : pages + pages_len - len, len, pages, pages_len, malloc(pages_len)};
+    must(more == 0 || mprotect(pages + pages_len, more, PROT_READ) == 0, "mprotect");
+    for (size_t i = 0; i < pages_len; i += 4) {
+        uint32_t word = random_word();
+        memcpy(pages + i, &word, 4);
+    }
+    struct lent l = {pages, len + more, pages, pages_len, malloc(pages_len), all, all_len};
     must(l.kept != NULL, "malloc");
     keep(&l);
     return l;
+}
+
+struct lent lend(size_t len, enum edge edge)
+{
+    struct lent l = map(len, 0);
+    if (edge == BEFORE_UNMAPPED)
+        l.at = l.pages + l.pages_len - len;
+    return l;
+}
+
+struct lent lend_longer(size_t len)
+{
+    return map(len, (size_t)UINT32_MAX + 1);
 }
 
 void keep(struct lent *l)
@@ -64,9 +80,13 @@ void forbid_writes(struct lent *l)
     must(mprotect(l->pages, l->pages_len, PROT_READ) == 0, "mprotect");
 }
 
+void allow_writes(struct lent *l)
+{
+    must(mprotect(l->pages, l->pages_len, PROT_READ | PROT_WRITE) == 0, "mprotect");
+}
+
 void give_back(struct lent *l)
 {
-    size_t page = (size_t)sysconf(_SC_PAGESIZE);
-    must(munmap(l->pages - page, l->pages_len + 2 * page) == 0, "munmap");
+    must(munmap(l->all, l->all_len) == 0, "munmap");
     free(l->kept);
 }

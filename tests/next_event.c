@@ -1,4 +1,4 @@
-/* kernel_next_event: every length, blocks that are not sound, and ticks on blocks made here. */
+/* kernel_next_event: blocks that are not sound, and ticks on blocks made here. */
 #include "check.h"
 #include "fresh_block.h"
 #include "host.h"
@@ -8,25 +8,6 @@
 #include "made_block.h"
 
 #include <string.h>
-
-static const size_t block_lens[] = {KERNEL_BLOCK_LEN, 0, 1, 128, KERNEL_BLOCK_LEN - 1, KERNEL_BLOCK_LEN + 1, 2 * KERNEL_BLOCK_LEN};
-static const size_t answer_lens[] = {KERNEL_NEXT_EVENT_LEN, 0, 1, 8, KERNEL_NEXT_EVENT_LEN - 1, KERNEL_NEXT_EVENT_LEN + 1, 40};
-
-static void lengths(size_t block_len, size_t answer_len, enum edge block_edge, enum edge answer_edge)
-{
-    struct lent block = lend(block_len, block_edge), answer = lend(answer_len, answer_edge);
-    int right = block_len == KERNEL_BLOCK_LEN && answer_len == KERNEL_NEXT_EVENT_LEN;
-    if (right)
-        fresh_block(block.at, random_word());
-    keep(&block);
-    forbid_writes(&block);
-    uint32_t number = kernel_next_event(block.at, block.len, answer.at, answer.len);
-    check(number == (right ? KERNEL_DONE : KERNEL_LENGTH), "block of %zu, answer of %zu: answer %u", block_len, answer_len, number);
-    check(same(&block), "the block changed");
-    check(right ? same_around(&answer) : same(&answer), "block of %zu, answer of %zu: a byte changed", block_len, answer_len);
-    give_back(&block);
-    give_back(&answer);
-}
 
 /* What the block is answered, and with which tick; `some` and `tick` count only if it is done. */
 static void asked(const uint8_t *bytes, const char *what, uint32_t expected, int some, uint64_t tick)
@@ -179,11 +160,6 @@ static void ticks(void)
 
 void test_next_event(void)
 {
-    group("kernel_next_event, lengths");
-    for (size_t i = 0; i < sizeof block_lens / sizeof *block_lens; i++)
-        for (size_t k = 0; k < sizeof answer_lens / sizeof *answer_lens; k++)
-            for (int edges = 0; edges < 4; edges++)
-                lengths(block_lens[i], answer_lens[k], (enum edge)(edges & 1), (enum edge)(edges >> 1));
     random_blocks();
     changed_words();
     ticks();

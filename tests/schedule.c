@@ -1,4 +1,4 @@
-/* kernel_schedule: every length, timers, waits, the choice, and the contexts that go and come. */
+/* kernel_schedule: timers, waits, the choice, and the contexts that go and come. */
 #include "check.h"
 #include "fresh_block.h"
 #include "host.h"
@@ -8,33 +8,6 @@
 #include "made_block.h"
 
 #include <string.h>
-
-static const size_t block_lens[] = {KERNEL_BLOCK_LEN, 0, KERNEL_BLOCK_LEN - 1};
-static const size_t bank_lens[] = {KERNEL_BANK_LEN, KERNEL_BANK_LEN - 1, KERNEL_BANK_LEN + 1};
-static const size_t processor_lens[] = {KERNEL_PROCESSOR_LEN, 0, KERNEL_PROCESSOR_LEN - 1, KERNEL_PROCESSOR_LEN + 1};
-static const size_t answer_lens[] = {KERNEL_SCHEDULE_LEN, 0, 3, 5};
-
-static void lengths(size_t block_len, size_t bank_len, size_t processor_len, size_t answer_len, enum edge edge)
-{
-    struct lent block = lend(block_len, edge), bank = lend(bank_len, edge), processor = lend(processor_len, edge), answer = lend(answer_len, edge);
-    int right = block_len == KERNEL_BLOCK_LEN && bank_len == KERNEL_BANK_LEN && processor_len == KERNEL_PROCESSOR_LEN && answer_len == KERNEL_SCHEDULE_LEN;
-    if (block_len == KERNEL_BLOCK_LEN)
-        fresh_block(block.at, random_word());
-    keep(&block);
-    keep(&bank);
-    keep(&processor);
-    keep(&answer);
-    uint32_t number = kernel_schedule(block.at, block.len, bank.at, bank.len, processor.at, processor.len, answer.at, answer.len, 7);
-    check(number == (right ? KERNEL_DONE : KERNEL_LENGTH), "%zu, %zu, %zu, %zu: answer %u", block_len, bank_len, processor_len, answer_len, number);
-    if (right)
-        check(same(&bank) && same(&processor) && same_around(&block) && same_around(&answer), "a pass without threads changed more than the block");
-    else
-        check(same(&block) && same(&bank) && same(&processor) && same(&answer), "refused, and a byte changed");
-    give_back(&block);
-    give_back(&bank);
-    give_back(&processor);
-    give_back(&answer);
-}
 
 enum { NOBODY = 99 };
 
@@ -75,20 +48,6 @@ static void passes(const uint8_t *before, uint64_t tick, const char *what, uint3
     give_back(&answer);
 }
 
-static void current(uint8_t *block, uint32_t thread)
-{
-    put32(block, HAS_CURRENT, 1);
-    put32(block, CURRENT_THREAD, thread);
-    put32(block, ALL_BLOCKED, 0);
-}
-
-static void none_current(uint8_t *block)
-{
-    put32(block, HAS_CURRENT, 0);
-    put32(block, CURRENT_THREAD, 0);
-    put32(block, ALL_BLOCKED, 1);
-}
-
 static uint32_t with_priority(uint8_t *block, uint32_t status, uint32_t priority)
 {
     uint32_t thread = add_thread(block, status);
@@ -106,9 +65,9 @@ static void picks(void)
     with_priority(block, READY, 3);
     memcpy(after, block, sizeof block);
     put32(after, thread_at(1) + STATUS, RUNNING);
-    current(after, 1);
+    make_current(after, 1);
     passes(block, 9, "5, 3, 3 and no current", KERNEL_DONE, after, NOBODY, 1, 1);
-    current(block, 2);
+    make_current(block, 2);
     passes(block, 9, "the current one Ready", KERNEL_DONE, after, 2, 1, 1);
     put32(block, thread_at(2) + STATUS, RUNNING);
     memcpy(after, block, sizeof block);
@@ -117,7 +76,7 @@ static void picks(void)
     memcpy(after, block, sizeof block);
     put32(after, thread_at(2) + STATUS, READY);
     put32(after, thread_at(1) + STATUS, RUNNING);
-    current(after, 1);
+    make_current(after, 1);
     passes(block, 9, "a more urgent one", KERNEL_DONE, after, 2, 1, 1);
 }
 
@@ -127,18 +86,18 @@ static void sleepers(void)
     uint8_t block[KERNEL_BLOCK_LEN], after[KERNEL_BLOCK_LEN];
     fresh_block(block, 0x10);
     uint32_t thread = add_thread(block, SLEEPING);
-    current(block, 0);
+    make_current(block, 0);
     wake_at(block, thread, 100);
     memcpy(after, block, sizeof block);
     put32(after, thread + WAITED, 1);
-    none_current(after);
+    make_none_current(after);
     passes(block, 99, "one tick too early", KERNEL_DONE, after, 0, NOBODY, 1);
     memcpy(after, block, sizeof block);
     put32(after, thread + STATUS, RUNNING);
     put32(after, thread + HAS_WAKEUP, 0);
     put64(after, thread + WAKEUP_AT, 0);
     passes(block, 100, "on time", KERNEL_DONE, after, NOBODY, NOBODY, 0);
-    none_current(block);
+    make_none_current(block);
     put32(block, thread + WAITED, 1);
     put32(after, thread + WAITED, 0);
     put64(after, thread + RUNNING_SINCE, 100);
@@ -173,7 +132,7 @@ static void objects(void)
         put64(after, at + WAKEUP_AT, 0);
         put32(after, at + WAIT_RESULT, i == 0 ? 1 : 2);
     }
-    current(after, 0);
+    make_current(after, 0);
     passes(block, 60, "due and late", KERNEL_DONE, after, NOBODY, 0, 1);
     put64(block, slot_at(timer) + X, 0);
     put64(block, slot_at(timer) + Y, 1);
@@ -191,14 +150,14 @@ static void starving(void)
     put32(block, thread_at(1) + STATUS, DORMANT);
     with_priority(block, READY, 9);
     with_priority(block, READY, 9);
-    current(block, 0);
+    make_current(block, 0);
     put64(block, thread + RUNNING_SINCE, 1000);
     memcpy(after, block, sizeof block);
     passes(block, 1000 + LEAD, "not starving", KERNEL_DONE, after, NOBODY, NOBODY, 0);
     put32(after, RELIEF, 1);
     put32(after, thread + STATUS, READY);
     put32(after, thread_at(2) + STATUS, RUNNING);
-    current(after, 2);
+    make_current(after, 2);
     passes(block, 1001 + LEAD, "starving", KERNEL_DONE, after, 0, 2, 1);
     put32(block, RELIEF, 1);
     memcpy(after, block, sizeof block);
@@ -209,13 +168,6 @@ static void starving(void)
 
 void test_schedule(void)
 {
-    group("kernel_schedule, lengths");
-    for (size_t i = 0; i < sizeof block_lens / sizeof *block_lens; i++)
-        for (size_t j = 0; j < sizeof bank_lens / sizeof *bank_lens; j++)
-            for (size_t k = 0; k < sizeof processor_lens / sizeof *processor_lens; k++)
-                for (size_t m = 0; m < sizeof answer_lens / sizeof *answer_lens; m++)
-                    for (int edge = 0; edge < 2; edge++)
-                        lengths(block_lens[i], bank_lens[j], processor_lens[k], answer_lens[m], (enum edge)edge);
     picks();
     sleepers();
     objects();
