@@ -18,6 +18,7 @@ int main(void)
     test_schedule();
     test_asks();
     test_dispatch();
+    test_guest_objects();
     test_collect();
     test_cases();
     return report();

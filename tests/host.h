@@ -11,6 +11,7 @@ void test_end_thread(void);
 void test_schedule(void);
 void test_asks(void);
 void test_dispatch(void);
+void test_guest_objects(void);
 void test_collect(void);
 void test_cases(void);
 
