@@ -24,6 +24,7 @@ BUILD = KERNEL_LIB=$(abspath $(KERNEL_LIB)) cargo build --offline --manifest-pat
 HOST = host check lent fault exports fresh_block made_block guest_call fresh_start next_event create_thread end_thread schedule asks \
     dispatch guest_objects collect cases guard refusals
 FLIPS = flips rules fresh_block
+BENCH = bench/bench bench/host bench/guest_calls bench/stack tests/made_block tests/fresh_block
 
 all: host-test
 
@@ -52,7 +53,8 @@ flips: $(C)/flips blocks
 	$(C)/flips target/blocks/*.block
 
 bench: $(C)/bench blocks
-	$(C)/bench target/blocks/full.block target/blocks/busy.block
+	sh bench/frames.sh $(KERNEL_LIB) > $(C)/frames.txt
+	$(C)/bench $(C)/frames.txt target/blocks/full.block target/blocks/busy.block
 
 bench-original: original $(KERNEL_LIB)
 	$(BUILD) --profile timed -p driver
@@ -87,7 +89,7 @@ $(C)/demo: $(C)/obj/demo/demo.o $(KERNEL_LIB)
 $(C)/flips: $(FLIPS:%=$(C)/obj/tests/%.o) $(KERNEL_LIB)
 	$(CC) -o $@ $^
 
-$(C)/bench: $(C)/obj/bench/bench.o $(C)/obj/bench/stack.o $(KERNEL_LIB)
+$(C)/bench: $(BENCH:%=$(C)/obj/%.o) $(KERNEL_LIB)
 	$(CC) -o $@ $^
 
 $(C)/pass: $(C)/obj/bench/pass.o $(KERNEL_LIB)

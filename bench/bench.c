@@ -1,10 +1,12 @@
 /*
- * Times every export on a fresh block and on given ones beside a plain copy of 16,384 bytes, and measures the stack
- * that each takes. Usage: bench BLOCK-FILE..
+ * Times every export, kernel_dispatch with each guest call, on a fresh block and on given ones beside a plain copy of 16,384 bytes, and
+ * measures the stack that each takes; then the most of each export, beside what its code can take at most.
+ * Usage: bench FRAMES-FILE BLOCK-FILE..
  */
 #define _GNU_SOURCE
-#include "kernel.h"
 #include "../tests/layout.h"
+#include "guest_calls.h"
+#include "host.h"
 #include "stack.h"
 
 #include <stdio.h>
@@ -12,7 +14,8 @@
 #include <string.h>
 #include <time.h>
 
-static uint8_t original[KERNEL_BLOCK_LEN], block[KERNEL_BLOCK_LEN], bank[KERNEL_BANK_LEN], answer[64];
+/* the timers of busy.block have come due by then */
+static const uint64_t LATE = 1u << 30;
 
 static uint32_t fresh_start(void) { return kernel_fresh_start(block, sizeof block, bank, sizeof bank, 0x10); }
 static uint32_t next_event(void) { return kernel_next_event(block, sizeof block, answer, KERNEL_NEXT_EVENT_LEN); }
@@ -22,10 +25,9 @@ static uint32_t create_thread(void)
     return kernel_create_thread(block, sizeof block, bank, sizeof bank, answer, KERNEL_CREATE_THREAD_LEN, 0x100001, 0x1000, 7, 24, 0);
 }
 
-static uint8_t processor[KERNEL_PROCESSOR_LEN];
 static uint32_t schedule(void)
 {
-    return kernel_schedule(block, sizeof block, bank, sizeof bank, processor, sizeof processor, answer, KERNEL_SCHEDULE_LEN, 1u << 30);
+    return kernel_schedule(block, sizeof block, bank, sizeof bank, processor, sizeof processor, answer, KERNEL_SCHEDULE_LEN, LATE);
 }
 
 static uint8_t handles[32];
@@ -33,7 +35,7 @@ static uint32_t satisfied_now(void)
 {
     return kernel_satisfied_now(block, sizeof block, handles, sizeof handles, answer, KERNEL_SATISFIED_NOW_LEN, 1, 0);
 }
-static uint32_t quiet_release(void) { return kernel_quiet_release(block, sizeof block, answer, KERNEL_QUIET_RELEASE_LEN, 0x10000, 0); }
+static uint32_t quiet_release(void) { return kernel_quiet_release(block, sizeof block, answer, KERNEL_QUIET_RELEASE_LEN, KERNEL_FIRST_HANDLE, 0); }
 
 /* The last eight open handles. */
 static int last_handles(void)
@@ -50,60 +52,35 @@ static uint32_t end_thread(void) { return kernel_end_thread(block, sizeof block,
 /* Finds the last thread that is not Dead; a fresh block has none. */
 static int find_live(void)
 {
-    for (ending = 32; ending-- > 0;)
-        if (original[THREADS_AT + THREAD_LEN * ending + STATUS] != DEAD)
+    for (ending = THREADS; ending-- > 0;)
+        if (original[thread_at(ending) + STATUS] != DEAD)
             return 1;
     return 0;
 }
 
-/* Ends the last threads, until one can be made. */
-static int make_room(void)
-{
-    memcpy(block, original, sizeof block);
-    for (uint32_t thread = 32; create_thread() != KERNEL_DONE;)
-        if (thread-- == 0)
-            return 0;
-        else
-            kernel_end_thread(original, sizeof original, thread), memcpy(block, original, sizeof block);
-    return 1;
-}
-
-static uint8_t window[32];
-
-/* Closes a handle that is not open: what every guest call takes, and little more. */
-static uint32_t dispatch(void)
-{
-    put32(processor, 0, 0);
-    return kernel_dispatch(block, sizeof block, bank, sizeof bank, processor, sizeof processor, window, sizeof window, 0x100000, KERNEL_CALL_CLOSE_HANDLE, 0);
-}
-
 static uint32_t collect(void) { return kernel_collect(block, sizeof block, answer, KERNEL_COLLECT_LEN); }
 
-/* A thread runs. */
-static int make_current(void)
-{
-    uint32_t current = thread_at(get32(original, CURRENT_THREAD));
-    if (get32(original, HAS_CURRENT) && get32(original, current + STATUS) == RUNNING)
-        return 1;
-    if (!make_room())
-        return 0;
-    memcpy(original, block, sizeof block);
-    return kernel_schedule(original, sizeof original, bank, sizeof bank, processor, sizeof processor, answer, KERNEL_SCHEDULE_LEN, 0) == KERNEL_DONE
-        && get32(original, HAS_CURRENT);
-}
+static uint32_t regs[6];
+static const struct guest_call *called;
+static uint32_t dispatch(void) { return guest(block, called->number, regs, LATE); }
 
 /* `changes`: the block has to be put back before each call. `ready`: makes the block one that the call accepts. */
 static const struct export { const char *name; uint32_t (*call)(void); int changes; int (*ready)(void); } exports[] = {
     {"kernel_fresh_start", fresh_start, 1, NULL},
     {"kernel_next_event", next_event, 0, NULL},
-    {"kernel_schedule", schedule, 1, NULL},
     {"kernel_satisfied_now", satisfied_now, 0, last_handles},
     {"kernel_quiet_release", quiet_release, 0, NULL},
     {"kernel_end_thread", end_thread, 1, find_live},
-    {"kernel_create_thread", create_thread, 1, make_room},
-    {"kernel_dispatch", dispatch, 1, make_current},
-    {"kernel_collect", collect, 1, make_current},
+    {"kernel_schedule", schedule, 1, NULL},
+    /* the block stays prepared from here on */
+    {"kernel_create_thread", create_thread, 1, prepare},
+    {"kernel_collect", collect, 1, NULL},
+    {"kernel_dispatch", dispatch, 1, NULL},
 };
+enum { EXPORTS = sizeof exports / sizeof *exports, DISPATCH = EXPORTS - 1 };
+
+/* The most that was measured, and where. */
+static struct most { double us; size_t stack; char where[60]; } most[EXPORTS];
 
 /* Seen by the compiler as a reader and writer of all memory, so that no copy is left out. */
 static void copy(void)
@@ -112,17 +89,21 @@ static void copy(void)
     __asm__ volatile("" ::: "memory");
 }
 
+static void must(int holds, const char *what, const char *text)
+{
+    if (!holds) {
+        fprintf(stderr, "%s: %s\n", what, text);
+        exit(1);
+    }
+}
+
 static const struct export *timed;
 
 static void copy_and_call(void)
 {
     if (timed->changes)
         copy();
-    uint32_t number = timed->call();
-    if (number != KERNEL_DONE) {
-        fprintf(stderr, "%s: answer %u\n", timed->name, number);
-        exit(1);
-    }
+    must(timed->call() == KERNEL_DONE, timed == &exports[DISPATCH] ? called->name : timed->name, "not accepted");
 }
 
 static double now(void)
@@ -160,20 +141,71 @@ static double microseconds(void (*run)(void))
     return times[BATCHES / 2];
 }
 
+static void measure_one(const char *name, const char *what, double one_copy)
+{
+    struct most *m = &most[timed - exports];
+    copy();
+    double us = microseconds(copy_and_call) - (timed->changes ? one_copy : 0);
+    copy();
+    size_t stack = stack_used(copy_and_call);
+    printf("%-31s %-6s %10.3f us %8.1f copies %10zu bytes of stack\n", name, what, us, us / one_copy, stack);
+    if (us > m->us)
+        m->us = us;
+    if (stack > m->stack) {
+        m->stack = stack;
+        snprintf(m->where, sizeof m->where, "%s, %s", name, what);
+    }
+}
+
 static void measure(const char *what)
 {
+    static uint8_t prepared[KERNEL_BLOCK_LEN];
     double one_copy = microseconds(copy);
-    printf("%-20s %-6s %10.3f us %8.1f copies\n", "copy", what, one_copy, 1.0);
-    for (size_t i = 0; i < sizeof exports / sizeof *exports; i++) {
-        timed = &exports[i];
-        if (timed->ready && !timed->ready())
-            continue;
-        copy();
-        double us = microseconds(copy_and_call) - (timed->changes ? one_copy : 0);
-        copy();
-        size_t stack = stack_used(copy_and_call);
-        printf("%-20s %-6s %10.3f us %8.1f copies %10zu bytes of stack\n", timed->name, what, us, us / one_copy, stack);
+    printf("%-31s %-6s %10.3f us %8.1f copies\n", "copy", what, one_copy, 1.0);
+    for (timed = exports; timed < &exports[DISPATCH]; timed++) {
+        int ready = !timed->ready || timed->ready();
+        if (ready)
+            measure_one(timed->name, what, one_copy);
+        must(ready || timed->ready != prepare, what, "no room can be made");
     }
+    memcpy(prepared, original, sizeof prepared);
+    for (called = guest_calls; called < guest_calls + GUEST_CALLS; called++) {
+        memcpy(original, prepared, sizeof original);
+        must(ready_for(called, regs), called->name, "its object cannot be made");
+        measure_one(called->name, what, one_copy);
+    }
+}
+
+/* The line of an export in the file that frames.sh wrote. */
+static size_t frames_of(const char *file, const char *name)
+{
+    char line[1000], found[64];
+    size_t bytes, result = 0;
+    FILE *in = fopen(file, "r");
+    while (in && fgets(line, sizeof line, in))
+        if (sscanf(line, "%63s %zu", found, &bytes) == 2 && strcmp(found, name) == 0)
+            result = bytes;
+    if (in)
+        fclose(in);
+    return result;
+}
+
+/* The table of docs/FIRMWARE.md. */
+static int summary(const char *frames)
+{
+    /* what is measured has the frames of a few functions of this program in it */
+    enum { OWN = 200 };
+    int fits = 1;
+    printf("\n| | most stack measured | at most | most time, us | measured most at |\n|---|---|---|---|---|\n");
+    for (size_t i = 0; i < EXPORTS; i++) {
+        size_t bound = frames_of(frames, exports[i].name);
+        printf("| `%s` | %zu | %zu | %.1f | %s |\n", exports[i].name, most[i].stack, bound, most[i].us, most[i].where);
+        if (bound + OWN < most[i].stack) {
+            fprintf(stderr, "%s: takes more stack than its code says\n", exports[i].name);
+            fits = 0;
+        }
+    }
+    return fits;
 }
 
 /* The file's name without folder and ending. */
@@ -188,9 +220,17 @@ static const char *name_of(const char *file)
 
 int main(int argc, char **argv)
 {
+    if (argc < 2) {
+        fprintf(stderr, "usage: bench FRAMES-FILE BLOCK-FILE..\n");
+        return 2;
+    }
     kernel_fresh_start(original, sizeof original, bank, sizeof bank, 0x10);
     measure("fresh");
-    for (int i = 1; i < argc; i++) {
+    open_chain();
+    measure("open");
+    listed_chain();
+    measure("listed");
+    for (int i = 2; i < argc; i++) {
         FILE *in = fopen(argv[i], "rb");
         if (!in || fread(original, 1, sizeof original, in) != sizeof original) {
             fprintf(stderr, "%s: no block\n", argv[i]);
@@ -199,5 +239,5 @@ int main(int argc, char **argv)
         fclose(in);
         measure(name_of(argv[i]));
     }
-    return 0;
+    return summary(argv[1]) ? 0 : 1;
 }
