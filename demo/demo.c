@@ -9,10 +9,10 @@
 #include <stdio.h>
 #include <string.h>
 
-enum { BASE = 0x100000, POINTS = BASE, CURRENT = 51, THREADS = 4 };
+enum { BASE = 0x100000, POINTS = BASE, THREADS = 4 };
 
-static const uint64_t TICKS_PER_MILLISECOND = 268111;
-static const uint64_t END = 12 * 268111;
+static const uint64_t TICKS_PER_MILLISECOND = KERNEL_TICKS_PER_SECOND / 1000;
+static const uint64_t END = 12 * (KERNEL_TICKS_PER_SECOND / 1000);
 /* what a guest does between two calls */
 static const uint64_t WORK = 2000;
 
@@ -50,7 +50,7 @@ static uint32_t call(uint32_t number, uint32_t r0, uint32_t r1, uint32_t r2, uin
     for (uint32_t i = 0; i < 6; i++)
         put32(processor, 4 * i, r[i]);
     uint32_t answer = kernel_dispatch(block, sizeof block, bank, sizeof bank, processor, sizeof processor, window, sizeof window, BASE, number, tick);
-    if (answer != KERNEL_DONE && answer < KERNEL_INVALID_HANDLE)
+    if (!KERNEL_ACCEPTED(answer))
         fail("a guest call was refused", answer);
     return answer;
 }
@@ -75,7 +75,7 @@ static void say(const char *who, const char *what, ...)
     va_end(list);
 }
 
-/* ---- the guests; step is where each one is, result what its wait gave: 0 nothing, 1 signaled, 2 timed out */
+/* ---- the guests; step is where each one is, result what its wait gave, KERNEL_RESULT_.. */
 
 static uint32_t step[THREADS];
 
@@ -101,7 +101,7 @@ static void tracer(uint32_t result)
         put32(window, POINTS - BASE, get32(window, POINTS - BASE) + 1);
         say("tracer", "reads point %u", get32(window, POINTS - BASE));
         /* wakes the cutter if it waits for points */
-        call(KERNEL_CALL_ARBITRATE_ADDRESS, points, POINTS, 0, 1, 0, 0);
+        call(KERNEL_CALL_ARBITRATE_ADDRESS, points, POINTS, KERNEL_ARBITRATION_SIGNAL, 1, 0, 0);
         *at = 1;
         break;
     }
@@ -115,7 +115,7 @@ static void cutter(uint32_t result)
     switch (*at) {
     case 0:
         /* parks while the points are fewer than the next to cut */
-        call(KERNEL_CALL_ARBITRATE_ADDRESS, points, POINTS, 1, cut + 1, 0, 0);
+        call(KERNEL_CALL_ARBITRATE_ADDRESS, points, POINTS, KERNEL_ARBITRATION_WAIT_IF_LESS_THAN, cut + 1, 0, 0);
         *at = 1;
         break;
     case 1:
@@ -150,7 +150,7 @@ static void turntable(uint32_t result)
         *at = 2;
         break;
     case 2:
-        if (result == 2) {
+        if (result == KERNEL_RESULT_TIMED_OUT) {
             say("turntable", "did not get it, skips a turn");
             *at = 0;
             turntable(0);
@@ -192,8 +192,13 @@ static int next_event(uint64_t *at)
     uint8_t answer[KERNEL_NEXT_EVENT_LEN];
     if (kernel_next_event(block, sizeof block, answer, sizeof answer) != KERNEL_DONE)
         fail("next_event", 0);
-    *at = get32(answer, 8) | (uint64_t)get32(answer, 12) << 32;
-    return get32(answer, 0) == 1;
+    *at = get32(answer, KERNEL_NEXT_EVENT_TICK_AT) | (uint64_t)get32(answer, KERNEL_NEXT_EVENT_TICK_AT + 4) << 32;
+    return get32(answer, KERNEL_NEXT_EVENT_FOUND_AT) == 1;
+}
+
+/* The reservation of an exclusive load (exclusive_addr) does not outlive a switch. These guests make none. */
+static void drop_exclusive_reservation(void)
+{
 }
 
 int main(void)
@@ -208,6 +213,8 @@ int main(void)
         uint32_t answer = kernel_schedule(block, sizeof block, bank, sizeof bank, processor, sizeof processor, switched, sizeof switched, tick);
         if (answer != KERNEL_DONE)
             fail("schedule", answer);
+        if (get32(switched, KERNEL_SCHEDULE_SWITCHED_AT))
+            drop_exclusive_reservation();
         /* what the wait of the thread that runs gave, handed out once; nobody runs: on to the next tick that matters */
         answer = kernel_collect(block, sizeof block, wait, sizeof wait);
         if (answer == KERNEL_NO_THREAD) {
@@ -218,9 +225,9 @@ int main(void)
         if (answer != KERNEL_DONE)
             fail("collect", answer);
         /* the TLS slot tells the thread; the guest runs until its next call */
-        uint32_t thread = get32(processor, 4 * CURRENT);
+        uint32_t thread = get32(processor, 4 * KERNEL_CONTEXT_TLS);
         tick += WORK;
-        program[thread](get32(wait, 0));
+        program[thread](get32(wait, KERNEL_COLLECT_RESULT_AT));
     }
     return 0;
 }
