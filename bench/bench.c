@@ -106,10 +106,11 @@ static void copy_and_call(void)
     must(timed->call() == KERNEL_DONE, timed == &exports[DISPATCH] ? called->name : timed->name, "not accepted");
 }
 
+/* Of this program's own time, so that others' is not counted. */
 static double now(void)
 {
     struct timespec t;
-    clock_gettime(CLOCK_MONOTONIC, &t);
+    clock_gettime(CLOCK_PROCESS_CPUTIME_ID, &t);
     return (double)t.tv_sec * 1e6 + (double)t.tv_nsec / 1e3;
 }
 
@@ -190,6 +191,16 @@ static size_t frames_of(const char *file, const char *name)
     return result;
 }
 
+/* With a comma before the last three digits. */
+static const char *grouped(size_t n, char *text)
+{
+    if (n < 1000)
+        sprintf(text, "%zu", n);
+    else
+        sprintf(text, "%zu,%03zu", n / 1000, n % 1000);
+    return text;
+}
+
 /* The table of docs/FIRMWARE.md. */
 static int summary(const char *frames)
 {
@@ -199,7 +210,8 @@ static int summary(const char *frames)
     printf("\n| | most stack measured | at most | most time, us | measured most at |\n|---|---|---|---|---|\n");
     for (size_t i = 0; i < EXPORTS; i++) {
         size_t bound = frames_of(frames, exports[i].name);
-        printf("| `%s` | %zu | %zu | %.1f | %s |\n", exports[i].name, most[i].stack, bound, most[i].us, most[i].where);
+        char stack[32], frames_text[32];
+        printf("| `%s` | %s | %s | %.1f | %s |\n", exports[i].name, grouped(most[i].stack, stack), grouped(bound, frames_text), most[i].us, most[i].where);
         if (bound + OWN < most[i].stack) {
             fprintf(stderr, "%s: takes more stack than its code says\n", exports[i].name);
             fits = 0;
