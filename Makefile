@@ -24,7 +24,8 @@ BUILD = KERNEL_LIB=$(abspath $(KERNEL_LIB)) cargo build --offline --manifest-pat
 HOST = host check lent fault exports fresh_block made_block guest_call fresh_start next_event create_thread end_thread schedule asks \
     dispatch guest_objects collect cases guard refusals
 FLIPS = flips rules fresh_block
-BENCH = bench/bench bench/host bench/guest_calls bench/stack tests/made_block tests/fresh_block
+BENCH = bench/bench bench/clock bench/host bench/guest_calls bench/stack tests/made_block tests/fresh_block
+GROWTH = bench/growth bench/clock bench/host tests/made_block tests/fresh_block
 
 all: host-test
 
@@ -55,6 +56,10 @@ flips: $(C)/flips blocks
 bench: $(C)/bench blocks
 	sh bench/frames.sh $(KERNEL_LIB) > $(C)/frames.txt
 	$(C)/bench $(C)/frames.txt target/blocks/full.block target/blocks/busy.block
+
+# how the time grows with threads, objects and handles
+growth: $(C)/growth
+	$(C)/growth
 
 bench-original: original $(KERNEL_LIB)
 	$(BUILD) --profile timed -p driver
@@ -92,6 +97,9 @@ $(C)/flips: $(FLIPS:%=$(C)/obj/tests/%.o) $(KERNEL_LIB)
 $(C)/bench: $(BENCH:%=$(C)/obj/%.o) $(KERNEL_LIB)
 	$(CC) -o $@ $^
 
+$(C)/growth: $(GROWTH:%=$(C)/obj/%.o) $(KERNEL_LIB)
+	$(CC) -o $@ $^
+
 $(C)/pass: $(C)/obj/bench/pass.o $(KERNEL_LIB)
 	$(CC) -o $@ $^
 
@@ -105,4 +113,4 @@ $(C)/obj/%.o: %.c $(wildcard include/*.h tests/*.h bench/*.h)
 clean:
 	rm -rf target oracle/target
 
-.PHONY: all test staticlib host-test demo flip-fresh flips bench bench-original profile original oracle differential record blocks clean
+.PHONY: all test staticlib host-test demo flip-fresh flips bench growth bench-original profile original oracle differential record blocks clean

@@ -3,8 +3,8 @@
  * measures the stack that each takes; then the most of each export, beside what its code can take at most.
  * Usage: bench FRAMES-FILE BLOCK-FILE..
  */
-#define _GNU_SOURCE
 #include "../tests/layout.h"
+#include "clock.h"
 #include "guest_calls.h"
 #include "host.h"
 #include "stack.h"
@@ -12,7 +12,6 @@
 #include <stdio.h>
 #include <stdlib.h>
 #include <string.h>
-#include <time.h>
 
 /* the timers of busy.block have come due by then */
 static const uint64_t LATE = 1u << 30;
@@ -104,42 +103,6 @@ static void copy_and_call(void)
     if (timed->changes)
         copy();
     must(timed->call() == KERNEL_DONE, timed == &exports[DISPATCH] ? called->name : timed->name, "not accepted");
-}
-
-/* Of this program's own time, so that others' is not counted. */
-static double now(void)
-{
-    struct timespec t;
-    clock_gettime(CLOCK_PROCESS_CPUTIME_ID, &t);
-    return (double)t.tv_sec * 1e6 + (double)t.tv_nsec / 1e3;
-}
-
-static int by_value(const void *a, const void *b)
-{
-    double x = *(const double *)a, y = *(const double *)b;
-    return (x > y) - (x < y);
-}
-
-/* Microseconds a call: the median of several batches, each long enough for the clock. */
-static double microseconds(void (*run)(void))
-{
-    enum { BATCHES = 21 };
-    double times[BATCHES];
-    long calls = 1;
-    for (double t = 0; t < 2000; calls *= 2) {
-        t = now();
-        for (long i = 0; i < calls; i++)
-            run();
-        t = now() - t;
-    }
-    for (int k = 0; k < BATCHES; k++) {
-        double t = now();
-        for (long i = 0; i < calls; i++)
-            run();
-        times[k] = (now() - t) / (double)calls;
-    }
-    qsort(times, BATCHES, sizeof *times, by_value);
-    return times[BATCHES / 2];
 }
 
 static void measure_one(const char *name, const char *what, double one_copy)

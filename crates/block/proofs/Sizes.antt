@@ -70,22 +70,3 @@ length-encThread x = rw (length-append, length-encWords, length-append, length-e
 pub length-encHead : (h : Head) → length (encHead h) ≡ 128
 unfolding encHead
 length-encHead h = simp (length-append, length-bytes)
-
-pub block-length : (k : Kernel) → length (k .threads) ≡ 32 → length (k .objects .slots) ≡ 128 → length (k .handles .entries) ≡ 256
-    → length (k .objects .waiters) ≡ 64 → length (k .objects .«thread_objects») ≡ 32 → length (encBlock k) ≡ 16384
-unfolding encBlock
-block-length k nt ns ne nw ni =
-    rw (
-      length-append,
-      length-encHead (headWords k),
-      length-append,
-      length-all encThread 160 length-encThread 32 (k .threads) nt,
-      length-append,
-      length-all encSlot 40 length-encSlot 128 (k .objects .slots) ns,
-      length-append,
-      length-all encEntry 8 length-encEntry 256 (k .handles .entries) ne,
-      length-append,
-      length-all encWaiter 12 length-encWaiter 64 (k .objects .waiters) nw,
-      length-append,
-      length-all encId 4 length-encId 32 (k .objects .«thread_objects») ni,
-    )

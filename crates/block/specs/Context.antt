@@ -8,13 +8,3 @@ use Rattle.types.specs.declared.thread.ThreadContext.{ThreadContext}
 unfoldable pub encContext : ThreadContext → List ℕ
 encContext x =
     encAll (bytes 4) (x .regs) ++ (bytes 4 (x .cpsr) ++ (encAll (bytes 4) (x .«vfp_regs») ++ ((bytes 4 (x .fpscr) ++ bytes 4 (x .fpexc)) ++ bytes 4 (x .«tls_pointer»))))
-
-unfoldable pub decContext : List ℕ → ThreadContext
-decContext s = record {
-  regs = decAll num 4 16 s 0;
-  cpsr = le 4 s 64;
-  «vfp_regs» = decAll num 4 32 s 68;
-  fpscr = le 4 s 196;
-  fpexc = le 4 s 200;
-  «tls_pointer» = le 4 s 204;
-}

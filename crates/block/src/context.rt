@@ -1,29 +1,11 @@
 // A context as 208 bytes: a row of the bank, or the processor.
-use codec::Four;
 use codec::Two;
 use types::thread::ThreadContext;
 ghost use mathlib.Core.Path.{_≡_};
 ghost use Prim.Native.Nat.{ℕ, _*_, _<_};
 ghost use lib.ListN.{length};
 ghost use Rattle.codec.specs.Bytes.{over};
-ghost use Rattle.block.specs.Context.{encContext, decContext};
-
-pub fn get_context(s: &[u8]) -> ThreadContext
-    requires { ⌜ length (now s) ≡ 208 ⌝ }
-    ensures { λ r. ⌜ r ≡ decContext (now (s .entry)) ⌝ }
-{
-    let regs = codec::get_words16(s, 0);
-    let vfp = codec::get_words32(s, 68);
-    let t = codec::get_two(s, 196);
-    ThreadContext {
-        regs: regs,
-        cpsr: codec::get32(s, 64),
-        vfp_regs: vfp,
-        fpscr: t.0,
-        fpexc: t.1,
-        tls_pointer: codec::get32(s, 204),
-    }
-}
+ghost use Rattle.block.specs.Context.{encContext};
 
 pub fn put_context(b: &mut [u8], x: ThreadContext)
     requires { ⌜ length (now b) ≡ 208 ⌝ }

@@ -102,17 +102,10 @@ module _ (k : Kernel) (p : Parts k) (h : ℕ) (e : resolved k h .store .full ≡
   pub resolved-parts : Parts (withObjects k (resolved k h .store))
   resolved-parts = store-parts k (resolved k h .store) resolved-store p
 
-  -- an object that was named stays as it was, and named
-  pub resolved-stays : (i : ℕ) → 0 < i → 0 < names (k .handles) (k .threads) i + keptNames (k .objects) i → objectAt (resolved k h .store) i ≡ objectAt (k .objects) i
-  resolved-stays = resolved-found .stay
-
   -- the object found, if it is one
   module _ (z : 0 < resolved k h .object .0) where
     pub resolved-named : 0 < names (k .handles) (k .threads) (resolved k h .object .0) + keptNames (resolved k h .store) (resolved k h .object .0)
     resolved-named = resolved-found .known z
-
-    pub resolved-live : isFree (objectAt (resolved k h .store) (resolved k h .object .0)) ≡ false
-    resolved-live = named-live (resolved k h .store) (names (k .handles) (k .threads)) (resolved-found .ok) (resolved k h .object .0) z resolved-named
 
     pub resolved-slot : resolved k h .object .0 ≤ 128
     resolved-slot = omega (arith, named-slot (resolved k h .store) (names (k .handles) (k .threads)) (resolved-found .ok) (resolved k h .object .0) z resolved-named, resolved-found .ok .ns)

@@ -133,28 +133,6 @@ over-more b at xs x i e h =
     let k : at + length xs + 1 ≤ length (over b at xs) = rw (length-over b at xs (omega arith)) h′ in
     rw (← e) (puts-eq (over b at xs) (at + length xs) (x ∷ []) k ∙ over-over b at xs (x ∷ []) h′)
 
--- one byte more
-pub bytes-more : (n v : ℕ) → bytes (n + 1) v ≡ bytes n v ++ (v / 256 ^ n % 256 ∷ [])
-unfolding bytes
-bytes-more n v = bytes-add n 1 v
-
-pub div-more : (n v : ℕ) → v / 256 ^ n / 256 ≡ v / 256 ^ (n + 1)
-div-more n v = rw (div-div-eq-div-mul, ← pow-suc, add-one)
-
--- two writes that fill a list
-pub over-join : (b xs ys : List ℕ) (n : ℕ) → length xs ≡ n → n + length ys ≡ length b → over (over b 0 xs) n ys ≡ xs ++ ys
-over-join b xs ys n e h =
-    let f : 0 + length xs + length ys ≤ length b = omega arith in
-    let g : length (xs ++ ys) ≡ length b = rw length-append (omega arith) in
-    let k : 0 + length xs ≡ n = omega arith in
-    rw (← k) (over-over b 0 xs ys f ∙ over-all b (xs ++ ys) g)
-
 -- a part that was lent and came back
 pub part-over : (b ys : List ℕ) (a k : ℕ) → length ys ≡ k → take a b ++ (ys ++ drop k (drop a b)) ≡ over b a ys
 part-over b ys a k e = rw (drop-drop, e)
-
--- what stands first, after a write that goes on from it
-pub prefix-more : (b xs ys : List ℕ) (n m : ℕ) → take n b ≡ xs → length ys ≡ m → n + m ≤ length b → take (n + m) (over b n ys) ≡ xs ++ ys
-prefix-more b xs ys n m e f h =
-    let g : n ≤ length b = omega arith in
-    rw (← f, take-over b n ys g, e)

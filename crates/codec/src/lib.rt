@@ -113,34 +113,6 @@ pub fn put_four(b: &mut [u8], at: usize, v: Four)
     put_two(b, at + 8, Two(v.2, v.3));
 }
 
-// Sixteen words from at.
-pub fn get_words16(s: &[u8], at: usize) -> [u32; 16]
-    requires { ⌜ at + 64 ≤ length (now s) ⌝ }
-    ensures { λ r. ⌜ r ≡ decAll num 4 16 (now (s .entry)) at ⌝ }
-{
-    let mut l = [0u32; 16];
-    let mut i = 0;
-    while i < 16 {
-        l[i] = get32(s, at + i * 4);
-        i += 1;
-    }
-    l
-}
-
-// Thirty-two words from at.
-pub fn get_words32(s: &[u8], at: usize) -> [u32; 32]
-    requires { ⌜ at + 128 ≤ length (now s) ⌝ }
-    ensures { λ r. ⌜ r ≡ decAll num 4 32 (now (s .entry)) at ⌝ }
-{
-    let mut l = [0u32; 32];
-    let mut i = 0;
-    while i < 32 {
-        l[i] = get32(s, at + i * 4);
-        i += 1;
-    }
-    l
-}
-
 // Sixteen words over what stands from at.
 pub fn put_words16(b: &mut [u8], at: usize, l: [u32; 16])
     requires { ⌜ at + 64 ≤ length (now b) ⌝ }
@@ -191,24 +163,7 @@ pub fn put_zeros(b: &mut [u8], at: usize, n: usize)
     }
 }
 
-// Whether two slices of n words hold the same bytes. No early end: the compiler then compares several words at once.
-pub fn same_words(a: &[u8], b: &[u8], n: usize) -> bool
-    requires { ⌜ length (now a) ≡ n * 4 ⌝ }
-    requires { ⌜ length (now b) ≡ n * 4 ⌝ }
-    ensures { λ r. ⌜ r ≡ same (now (a .entry)) (now (b .entry)) ⌝ }
-{
-    let mut alike = true;
-    let mut i: usize = 0;
-    while i < n {
-        if get32(a, i * 4) != get32(b, i * 4) {
-            alike = false;
-        }
-        i += 1;
-    }
-    alike
-}
-
-// Whether the n words from at are all zero. No early end, as above.
+// Whether the n words from at are all zero. No early end: the compiler then looks at several words at once.
 pub fn zero_words(s: &[u8], at: usize, n: usize) -> bool
     requires { ⌜ at + n * 4 ≤ length (now s) ⌝ }
     ensures { λ r. ⌜ r ≡ same (take (n * 4) (drop at (now (s .entry)))) (replicate (n * 4) 0) ⌝ }

@@ -67,13 +67,6 @@ pub runs-current : (k : Kernel) → runs? k ≡ true → (c : ℕ) → k .«curr
 unfolding runs?
 runs-current k e c h = sym (ap (λ (o : ThreadOption). runsAs o (k .threads)) h) ∙ e
 
--- numbers of threads are below 32
-pub current-place : (k : Kernel) → Parts k → runs? k ≡ true → (c : ℕ) → k .«current_thread» ≡ SomeThread c → c < 32
-current-place k p e c h = omega (arith, running-in (k .threads) c (runs-current k e c h), p .nt)
-
-pub blocked-place : (k : Kernel) → Parts k → (w : ℕ) → Blocked (k .threads) w → w < 32
-blocked-place k p w b = omega (arith, blocked-in (k .threads) w b, p .nt)
-
 -- ---- a wait of n nanoseconds from the tick on
 -- n is not 0 and not below 0 as a signed number, and its end fits a tick
 pub record Timed (n tick : ℕ) : Type 0 where

@@ -36,9 +36,6 @@ wakes-parked number k r w e = go (eqb number 0x22) e
     go true f = if-parked (arbitrationFromRaw (r .r2)) k r w f
     go false f = false-true f
 
-pub wakes-blocked : (number : ℕ) (k : Kernel) (r : Registers) (w : ℕ) → contains (wakes number k r) w ≡ true → Blocked (k .threads) w
-wakes-blocked number k r w e = parked-blocked (threadAt (k .threads) w) (r .r1) (wakes-parked number k r w e)
-
 module _ (number : ℕ) (k : Kernel) (r : Registers) (words : List ℕ) (tick : ℕ) (p : Parts k) where
   abbrev after : Kernel
   after = call number k r words tick .kernel
@@ -60,10 +57,6 @@ module _ (number : ℕ) (k : Kernel) (r : Registers) (words : List ℕ) (tick : 
     pub call-waits : (w : ℕ) → Blocked (k .threads) w → contains (wakes number k r) w ≡ false → waitOf (threadAt (after .threads) w) ≡ waitOf (threadAt (k .threads) w)
     call-waits w b e = call-effect k r tick number words p .waits w b (blocked-other k run w b) e
 
-    -- the current thread is blocked afterwards only by one of four calls
-    pub call-parks : (c : ℕ) → k .«current_thread» ≡ SomeThread c → Blocked (after .threads) c → parks? number ≡ true
-    call-parks c e b = call-effect k r tick number words p .parked c e (runs-current k run c e) b
-
     -- and a wait of n nanoseconds runs out as many ticks after the call's
     pub call-wake : (c : ℕ) → k .«current_thread» ≡ SomeThread c → Blocked (after .threads) c → timedWait? number r ≡ true → Timed (waitNanos number r) tick
         → threadAt (after .threads) c .«wakeup_at» ≡ runsOut (waitNanos number r) tick
@@ -75,20 +68,7 @@ module _ (number : ℕ) (is : eqb number 0x09 ≡ true) (k : Kernel) (r : Regist
   unfolding call
   exits = ap (λ (m : ℕ). call m k r words tick) (eqb-true number 0x09 is)
 
-  pub call-exit-other : (w : ℕ) → k .«current_thread» ≢ SomeThread w → threadAt (call number k r words tick .kernel .threads) w ≡ threadAt (k .threads) w
-  call-exit-other w h = ap (λ (x : Served). threadAt (x .kernel .threads) w) exits ∙ exit-other k w h
-
-  pub call-exit-dead : runs? k ≡ true → (c : ℕ) → k .«current_thread» ≡ SomeThread c → threadAt (call number k r words tick .kernel .threads) c .status ≡ Dead
-  call-exit-dead run c e = ap (λ (x : Served). threadAt (x .kernel .threads) c .status) exits ∙ exit-dead k c e (runs-current k run c e)
-
 -- ---- what a call makes of a blocked thread w
 pub data CallEnds (number : ℕ) (k : Kernel) (r : Registers) (words : List ℕ) (tick w : ℕ) : Type 0 where
   goes-on : waitOf (threadAt (call number k r words tick .kernel .threads) w) ≡ waitOf (threadAt (k .threads) w) → contains (wakes number k r) w ≡ false → CallEnds number k r words tick w
   gets : threadAt (call number k r words tick .kernel .threads) w .status ≡ Ready → contains (wakes number k r) w ≡ true → CallEnds number k r words tick w
-
-pub call-end : (number : ℕ) (k : Kernel) (r : Registers) (words : List ℕ) (tick : ℕ) → Parts k → runs? k ≡ true → (w : ℕ) → Blocked (k .threads) w → CallEnds number k r words tick w
-call-end number k r words tick p run w b = go (contains (wakes number k r) w) refl
-  where
-    go : (q : Bool) → contains (wakes number k r) w ≡ q → CallEnds number k r words tick w
-    go true e = gets (call-wakes number k r words tick p w e) e
-    go false e = goes-on (call-waits number k r words tick p run w b e) e

@@ -92,10 +92,6 @@ since-wait : (o : ThreadOption) (k : Kernel) (tick w : ℕ) → waitOf (threadAt
 since-wait NoThread k tick w = refl
 since-wait (SomeThread c) k tick w = thread-f waitOf (k .threads) c _ w refl
 
-since-status : (o : ThreadOption) (k : Kernel) (tick w : ℕ) → threadAt (runsSince o k tick .threads) w .status ≡ threadAt (k .threads) w .status
-since-status NoThread k tick w = refl
-since-status (SomeThread c) k tick w = thread-f (λ (y : Thread). y .status) (k .threads) c _ w refl
-
 since-relief : (o : ThreadOption) (k : Kernel) (tick : ℕ) → runsSince o k tick .relief ≡ k .relief
 since-relief NoThread k tick = refl
 since-relief (SomeThread c) k tick = refl

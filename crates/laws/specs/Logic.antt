@@ -48,12 +48,6 @@ unfolding _and_
 and-false true = refl
 and-false false = refl
 
-pub and-swap : (a b c : Bool) → a and (b and c) ≡ b and (a and c)
-unfolding _and_
-and-swap true b c = refl
-and-swap false true c = refl
-and-swap false false c = refl
-
 pub and-assoc : (a b c : Bool) → a and (b and c) ≡ (a and b) and c
 unfolding _and_
 and-assoc true b c = refl

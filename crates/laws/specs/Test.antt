@@ -48,9 +48,6 @@ pub t-not : (b : Bool) → Test (not b) (b ≡ false)
 t-not true = record { yes = λ e. sym e; has = λ p. sym p }
 t-not false = record { yes = λ e. refl; has = λ p. refl }
 
-pub t-ne : (a b : ℕ) → Test (not (eqb a b)) (a ≢ b)
-t-ne a b = t-as (λ e. eqb-false a b e) (λ n. ne-eqb a b n) (t-not (eqb a b))
-
 -- if the first test fails, the second holds
 pub t-or : (a b : Bool) {P : Type 0} → Test b P → Test (a or b) (a ≡ false → P)
 unfolding _or_

@@ -25,7 +25,6 @@ module _ (lengths : Bool) (look : Kernel → List ℕ) (l : Lent) where
   inspect-1 e = rw e
 
   module _ (e : lengths ≡ true) (k : Kernel) (f : k ≡ decBlock (l .block)) (r : Bool) (g : r ≡ sound? (l .block)) where
-
     pub inspect-2 : r ≡ false → back 2 l ≡ inspect lengths look l
     unfolding inspect
     inspect-2 h = rw (e, ← g, h)
@@ -46,7 +45,6 @@ module _ (lengths : Bool) (refusal : Kernel → ℕ) (work : Kernel → Kernel) 
   change-1 e = rw e
 
   module _ (e : lengths ≡ true) (k : Kernel) (f : k ≡ decBlock (l .block)) (r : Bool) (g : r ≡ sound? (l .block)) where
-
     pub change-2 : r ≡ false → back 2 l ≡ change lengths refusal work result l
     unfolding change
     change-2 h = rw (e, ← g, h)

@@ -78,13 +78,6 @@ module _ (k : Kernel) (p : Parts k) where
   live-known (o ∷ os) a =
       (live-slot (k .objects) (names (k .handles) (k .threads)) (p .ob) o (a .0) .0, (live-named (k .objects) (names (k .handles) (k .threads)) (p .ob) o (a .0), live-known os (a .1)))
 
-  pub live-waitable : (l : List ObjectId) (n : ℕ) → length l ≡ 8 → n ≤ 8 → All (λ o. isFree (objectAt (k .objects) o) ≡ false) (take n (ids l)) → Zeros (drop n (ids l)) → Waitable k l n
-  live-waitable l n e m a z = record {
-    places = live-places n (ids l) (omega (arith, length-map l (λ (o : ObjectId). o .0))) a z;
-    known = live-known (take n (ids l)) a;
-    size = e;
-  }
-
 -- ---- widths
 places-fit : (n : ℕ) (l : List ObjectId) → Places n (ids l) → All IdFits l
 places-fit zero [] z = tt

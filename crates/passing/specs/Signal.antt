@@ -61,15 +61,6 @@ module _ (n : ℕ) (ts : List th.Thread) (f : ℕ → ℕ) where
   unfolding clearEvent
   clearEvent-store s o h = content-store s o (clearedEvent (objectAt s o)) (cleared-like n ts (objectAt s o)) h
 
--- ---- the finding is left alone by signals, and sticks in `acquire`
-pub signal-overflow : (s : ObjectStore) (ws : List th.Thread) (o : ℕ) → signalEvent s ws o .overflow ≡ s .overflow
-unfolding signalEvent
-signal-overflow s ws o = refl
-
-pub clearEvent-overflow : (s : ObjectStore) (o : ℕ) → clearEvent s o .overflow ≡ s .overflow
-unfolding clearEvent content
-clearEvent-overflow s o = refl
-
 pub acquire-sticks : (s : ObjectStore) (o w : ℕ) → acquire s o w .overflow ≡ false → s .overflow ≡ false
 unfolding acquire
 acquire-sticks s o w e = or-false (s .overflow) (acquireOver (objectAt s o)) e .0

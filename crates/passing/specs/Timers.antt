@@ -105,14 +105,6 @@ pub fire-sticks : (s : ObjectStore) (tick : ℕ) → fireTimers s tick .overflow
 unfolding fireTimers
 fire-sticks s tick e = or-false (s .overflow) (anyOver tick (s .slots)) e .0
 
-catch-sticks-if : (b : Bool) (s : ObjectStore) (ws : List th.Thread) (tick : ℕ) → pick b (withSlots (fireTimers s tick) (lostSlots ws 1 (fireTimers s tick .slots))) s .overflow ≡ false → s .overflow ≡ false
-catch-sticks-if true s ws tick e = fire-sticks s tick e
-catch-sticks-if false s ws tick e = e
-
-pub catch-sticks : (s : ObjectStore) (ws : List th.Thread) (tick : ℕ) → catchUpTimers s ws tick .overflow ≡ false → s .overflow ≡ false
-unfolding catchUpTimers
-catch-sticks s ws tick e = catch-sticks-if (timerDue tick (s .slots)) s ws tick e
-
 pub clear-overflow : (s : ObjectStore) → clearPulses s .overflow ≡ s .overflow
 unfolding clearPulses
 clear-overflow s = refl

@@ -25,24 +25,6 @@ use Rattle.object.specs.Kept.{threadObject, processObject, ofCurrent, resolve}
 use Rattle.soundness.specs.Slots.{pick-both, each-slot}
 
 module _ (P : KObject → Type 0) where
-  pub each-content : (s : ObjectStore) (o : ℕ) (x : KObject) → P x → Each P s → Each P (content s o x)
-  unfolding content
-  each-content s o x p h = each-slot P (s .slots) o _ p h
-
-  each-map : (g : Slot → Slot) → ((x : Slot) → P (x .object) → P (g x .object)) → (l : List Slot) → ((o : ℕ) → P (slotAt l o .object)) → (o : ℕ) → P (slotAt (map g l) o .object)
-  unfolding slotAt
-  each-map g e l h zero = h zero
-  each-map g e [] h (suc i) = h (suc i)
-  each-map g e (x ∷ l) h (suc zero) = e x (h 1)
-  each-map g e (x ∷ l) h (suc (suc i)) = each-map g e l (after l h) (suc i)
-    where
-      after : (l : List Slot) → ((o : ℕ) → P (slotAt (x ∷ l) o .object)) → (o : ℕ) → P (slotAt l o .object)
-      after l h zero = h zero
-      after l h (suc j) = h (suc (suc j))
-
-  pub each-contents : (g : Slot → Slot) → ((x : Slot) → P (x .object) → P (g x .object)) → (s : ObjectStore) → Each P s → Each P (withSlots s (map g (s .slots)))
-  each-contents g e s h = each-map g e (s .slots) h
-
   pub each-addRef : (s : ObjectStore) (o : ℕ) → Each P s → Each P (addRef s o)
   unfolding addRef
   each-addRef s o h = pick-both (Each P) (isFree (objectAt s o)) s _ h (each-slot P (s .slots) o _ (h o) h)

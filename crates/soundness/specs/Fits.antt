@@ -134,15 +134,8 @@ module _ (s : ObjectStore) (f : StoreFits s) where
   pub withSlots-fits : (l : List Slot) → All SlotFits l → StoreFits (withSlots s l)
   withSlots-fits l a = record { slots = a; free = f .free; waiters = f .waiters; freeWaiter = f .freeWaiter; ids = f .ids; process = f .process }
 
-  pub slotPut-fits : (o : ℕ) (v : Slot) → SlotFits v → StoreFits (withSlots s (slotPut (s .slots) o v))
-  slotPut-fits o v k = withSlots-fits _ (all-slotPut SlotFits (s .slots) o v k (f .slots))
-
   put-fits : (o : ℕ) (x : KObject) (r : ℕ) → KeepsFit x → Word r → All SlotFits (slotPut (s .slots) o (record { object = x; refcount = r; pulsed = slotAt (s .slots) o .pulsed }))
   put-fits o x r k w = all-slotPut SlotFits (s .slots) o _ (slot-of x r (slotAt (s .slots) o .pulsed) k w) (f .slots)
-
-  pub content-fits : (o : ℕ) (x : KObject) → KeepsFit x → StoreFits (content s o x)
-  unfolding content
-  content-fits o x k = withSlots-fits _ (put-fits o x _ k (ref-at-fits o))
 
   pub addRef-fits : (o : ℕ) → StoreFits (addRef s o)
   unfolding addRef

@@ -214,23 +214,6 @@ pub resolve-full : (c : ThreadOption) (t : HandleTable) (s : ObjectStore) (h : �
 unfolding resolve
 resolve-full c t s h e = resolve-full-if (eqb h 0xFFFF8000) (eqb h 0xFFFF8001) c t s h e
 
--- ---- one after the other
-pub found-refl : (s : ObjectStore) (f : ℕ → ℕ) → ObOk s f → Found s f s 0
-found-refl s f h = found-none s f 0 h (λ w. absurd (omega arith))
-
--- what had a name has one still
-pub found-more : (s : ObjectStore) (f : ℕ → ℕ) (s′ : ObjectStore) (o i : ℕ) → Found s f s′ o → 0 < i → 0 < f i + keptNames s i → 0 < f i + keptNames s′ i
-found-more s f s′ o i a z p = omega (arith, a .more i z)
-
-pub found-trans : (s : ObjectStore) (f : ℕ → ℕ) (s′ s″ : ObjectStore) (o o′ : ℕ) → Found s f s′ o → Found s′ f s″ o′ → Found s f s″ o′
-found-trans s f s′ s″ o o′ a b = record {
-  ok = b .ok;
-  same = same-trans s s′ s″ (a .same) (b .same);
-  stay = λ i z p. b .stay i z (found-more s f s′ o i a z p) ∙ a .stay i z p;
-  known = b .known;
-  more = λ i z. omega (arith, a .more i z, b .more i z);
-}
-
 -- ---- a kept thread object is let go: its name is a debt, which a release pays
 abbrev pub unkept : ObjectStore → ℕ → ObjectStore
 unkept s t = withKept s (set (s .«thread_objects») t (record { 0 = 0 }))

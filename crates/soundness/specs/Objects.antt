@@ -434,10 +434,6 @@ module _ (s : ObjectStore) (v : KObject) (f : ℕ → ℕ) (z : 0 < s .free) (h 
   unfolding insert
   insert-stay o w p = ap (λ (y : Slot). y .object) (slot-other (s .slots) (s .free) _ o (not-free s f h o w p))
 
--- the law of insert: from the flag down after
-pub insert-fine : (s : ObjectStore) (v : KObject) (f : ℕ → ℕ) → 0 < kindNumber v → headOf v ≡ 0 → Fine s f → Fine (insert s v) (λ i. ind (s .free) i + f i)
-insert-fine s v f kz hz h e = let q = insert-full s v e in insert-ok s v f (q .1) (h (q .0)) kz hz
-
 pub insert-kept : (s : ObjectStore) (v : KObject) (i : ℕ) → keptNames (insert s v) i ≡ keptNames s i
 unfolding insert keptNames
 insert-kept s v i = refl

@@ -421,15 +421,6 @@ module _ {A : Type 0} (g : KObject → A) (e : (x : KObject) (h : ℕ) → g (wi
   dropThread-stay zero o t s i = refl
   dropThread-stay (suc n) o t s i = dropThread-stay n (suc o) t (retain (ofOthers s t) s o) i ∙ retain-stay (ofOthers s t) s o i
 
-  push-stay-if : (p q : Bool) (s : ObjectStore) (o t a i : ℕ) → g (objectAt (pick p (pick q s (pushed s o t a)) s) i) ≡ g (objectAt s i)
-  push-stay-if true true s o t a i = refl
-  push-stay-if true false s o t a i = slot-f (λ y. g (y .object)) (s .slots) o _ i (e (objectAt s o) _)
-  push-stay-if false q s o t a i = refl
-
-  pub push-stay : (s : ObjectStore) (o t a i : ℕ) → g (objectAt (push s o t a) i) ≡ g (objectAt s i)
-  unfolding push
-  push-stay s o t a i = push-stay-if (isArbiter (objectAt s o)) (has? (waiterThreads (s .waiters)) (waiterAddresses (s .waiters)) t a (chainOf s o)) s o t a i
-
 -- and of kept objects, all
 pub retain-kept : (keep : ℕ → Bool) (s : ObjectStore) (o i : ℕ) → keptNames (retain keep s o) i ≡ keptNames s i
 unfolding retain keptNames
@@ -439,13 +430,3 @@ pub dropThread-kept : (n o t : ℕ) (s : ObjectStore) (i : ℕ) → keptNames (d
 unfolding dropThread
 dropThread-kept zero o t s i = refl
 dropThread-kept (suc n) o t s i = dropThread-kept n (suc o) t (retain (ofOthers s t) s o) i ∙ retain-kept (ofOthers s t) s o i
-
-push-kept-if : (p q : Bool) (s : ObjectStore) (o t a i : ℕ) → keptNames (pick p (pick q s (pushed s o t a)) s) i ≡ keptNames s i
-unfolding keptNames
-push-kept-if true true s o t a i = refl
-push-kept-if true false s o t a i = refl
-push-kept-if false q s o t a i = refl
-
-pub push-kept : (s : ObjectStore) (o t a i : ℕ) → keptNames (push s o t a) i ≡ keptNames s i
-unfolding push
-push-kept s o t a i = push-kept-if (isArbiter (objectAt s o)) (has? (waiterThreads (s .waiters)) (waiterAddresses (s .waiters)) t a (chainOf s o)) s o t a i

@@ -30,10 +30,6 @@ pub chain-same : (s s′ : ObjectStore) → SameRecs s s′ → (o : ℕ) → ch
 chain-same s s′ e o =
     ap (λ (w : List Waiter). walk (waiterNexts w) 64 (headOf (objectAt s′ o))) (e .waiters) ∙ ap (walk (waiterNexts (s .waiters)) 64) (e .heads o)
 
--- ---- the primitives
-pub slotPut-same : (s : ObjectStore) (o : ℕ) (v : Slot) → headOf (v .object) ≡ headOf (objectAt s o) → SameRecs s (withSlots s (slotPut (s .slots) o v))
-slotPut-same s o v e = record { waiters = refl; free = refl; heads = λ i. slot-f headAt (s .slots) o v i e }
-
 pub content-same : (s : ObjectStore) (o : ℕ) (x : KObject) → shapeOf x ≡ shapeOf (objectAt s o) → SameRecs s (content s o x)
 unfolding content
 content-same s o x e = record { waiters = refl; free = refl; heads = λ i. slot-f headAt (s .slots) o _ i (ap (λ (q : Shape). q .head) e) }

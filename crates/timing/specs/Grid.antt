@@ -42,12 +42,6 @@ least-min a b = go (ltb a b) refl
     go true e = omega (arith, ltb-true a b e)
     go false e = omega (arith, ltb-false a b e)
 
-pub cut-fits : (x : ℕ) → x ≤ maxTick → cutOff x ≡ SomeTick (record { 0 = x })
-cut-fits x h = let e : least x maxTick ≡ x = omega (arith, least-min x maxTick) in ap (λ (n : ℕ). SomeTick (record { 0 = n })) e
-
-pub cut-last : (x : ℕ) → maxTick ≤ x → cutOff x ≡ SomeTick (record { 0 = maxTick })
-cut-last x h = let e : least x maxTick ≡ maxTick = omega (arith, least-min x maxTick) in ap (λ (n : ℕ). SomeTick (record { 0 = n })) e
-
 saturated : (a b : ℕ) → saturatingAdd a (least b maxTick) ≡ least (a + b) maxTick
 saturated a b = omega (arith, least-min (a + least b maxTick) maxTick, least-min b maxTick, least-min (a + b) maxTick)
 

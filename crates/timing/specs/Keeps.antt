@@ -37,10 +37,6 @@ use Rattle.timing.specs.Fires.{firedClock, fire-clock}
 abbrev pub KeepsClock : ObjectStore → ObjectStore → ℕ → Type 0
 KeepsClock s s′ o = 0 < clockAt s′ o .kind → clockAt s′ o ≡ clockAt s o
 
--- a change that leaves every clock
-pub keeps-same : (s s′ : ObjectStore) (o : ℕ) → clockAt s′ o ≡ clockAt s o → KeepsClock s s′ o
-keeps-same s s′ o e h = e
-
 pub keeps-then : (s s′ s″ : ObjectStore) (o : ℕ) → KeepsClock s s′ o → KeepsClock s′ s″ o → KeepsClock s s″ o
 keeps-then s s′ s″ o f g h = g h ∙ f (subst (λ (c : Clock). 0 < c .kind) (g h) h)
 

@@ -73,10 +73,6 @@ module _ (x y : Thread) (e : atRest y ≡ atRest x) where
   pub rest-priority : y .priority ≡ x .priority
   rest-priority = ap (λ (t : Thread). t .priority) e
 
-  -- the status of one that cannot run
-  pub rest-status : isRunnable (x .status) ≡ false → y .status ≡ x .status
-  rest-status n = sym (off-same (y .status) (rest-runs ∙ n)) ∙ ap (λ (t : Thread). t .status) e ∙ off-same (x .status) n
-
   -- the wait of one that cannot run
   pub rest-wait : isRunnable (x .status) ≡ false → waitOf y ≡ waitOf x
   rest-wait n =

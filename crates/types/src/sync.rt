@@ -3,7 +3,7 @@ use crate::thread::ThreadOption;
 use crate::thread::TickOption;
 use units::Ticks;
 ghost use mathlib.Core.Path.{_≡_};
-ghost use Rattle.types.specs.Sync.{resetNumber, resetFromRaw, arbitrationFromRaw};
+ghost use Rattle.types.specs.Sync.{resetNumber, resetFromRaw};
 
 // How an event or a timer behaves once a waiter picks it up.
 pub enum ResetType {
@@ -78,20 +78,5 @@ pub fn reset_from_raw(value: u32) -> ResetType
         1 => ResetType::Sticky,
         2 => ResetType::Pulse,
         _ => ResetType::OneShot,
-    }
-}
-
-pub fn arbitration_from_raw(value: u32) -> ArbitrationOption
-    ensures { λ r. ⌜ r ≡ arbitrationFromRaw value ⌝ }
-{
-    match value {
-        0 => ArbitrationOption::SomeArbitration(ArbitrationType::Signal),
-        1 => ArbitrationOption::SomeArbitration(ArbitrationType::WaitIfLessThan),
-        2 => ArbitrationOption::SomeArbitration(ArbitrationType::DecrementAndWaitIfLessThan),
-        3 => ArbitrationOption::SomeArbitration(ArbitrationType::WaitIfLessThanWithTimeout),
-        4 => ArbitrationOption::SomeArbitration(
-            ArbitrationType::DecrementAndWaitIfLessThanWithTimeout,
-        ),
-        _ => ArbitrationOption::NoArbitration,
     }
 }
