@@ -75,7 +75,7 @@ module _ (test : ℕ → Bool) where
         let t : turns test n start m (suc k) ≡ firstFrom test m (suc i) = turns-after m (suc k) (suc i) (omega arith) (omega arith) c in
         rw (e, t)
 
--- a find that had none has none in a part of it
+-- what was looked over first need not be looked over again
 twice : (x y : ThreadOption) → orElse x y ≡ orElse x (orElse y x)
 twice (SomeThread t) y = refl
 twice NoThread (SomeThread t) = refl
@@ -89,7 +89,7 @@ module _ (ts : List Thread) (p : ℕ) where
   abbrev test : ℕ → Bool
   test = runsAt ts p
 
-  -- the first m places from i on, as far as the row goes
+  -- of the 32 places from i on only those of the row count
   first-row : (i a : ℕ) → i + a ≡ length ts → a ≤ 32 → firstFrom test 32 i ≡ firstFrom test a i
   first-row i a h b =
       let e : 32 ≡ a + (32 - a) = omega arith in
