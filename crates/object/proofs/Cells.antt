@@ -1,15 +1,13 @@
 -- Records as columns: cells by the code's cases, one step of a walk that unlinks, and columns joined. Assumes nothing.
 use mathlib.Core.Path.{_≡_, refl, ap, sym, _∙_}
-use mathlib.Core.Bool.{Bool, true, false, not}
+use mathlib.Core.Bool.{Bool, true, false}
 use mathlib.Core.Logic.{_≢_}
 use mathlib.Core.List.{List, [], _∷_}
 use Prim.Native.Nat.{ℕ, zero, suc, _+_, _-_, _≤_, _<_}
 use native.Mathlib.Numerals.{add-one}
 use native.Mathlib.Omega.{arith}
-use lib.Dec.{eqb}
 use lib.ListN.{length, getD, set, take}
 use lib.Seq.{set-out, take-all}
-use borrow.Author.Tests.{eq-eqb, ne-eqb}
 use Rattle.laws.specs.Count.{at, put}
 use Rattle.laws.specs.Walk.{walk, walk-nil, walk-out}
 use Rattle.types.specs.declared.object.Waiter.{Waiter}
@@ -17,7 +15,7 @@ use Rattle.sound.specs.View.{waiterNexts}
 use Rattle.object.specs.declared.waiters.Links.{Links}
 use Rattle.object.specs.declared.waiters.Ends.{Ends}
 use Rattle.object.specs.Waiters.{waiterAt, link, unlink}
-use Rattle.object.specs.Cells.{joined, linksOf, unlinkThread, nexts-joined, threads-joined, put-next, put-freed}
+use Rattle.object.specs.Cells.{joined, linksOf, unlinkFrom, kept, nexts-joined, threads-joined, put-next, put-freed}
 use Rattle.object.proofs.Laws.{at-next, at-thread, unlink-go}
 
 -- ---- cells
@@ -45,30 +43,30 @@ put-far l zero v h = refl
 put-far l (suc i) v h = sym (set-out l i v (omega arith))
 
 -- ---- a walk that unlinks, by the code's cases
-module _ (ts ds ns : List ℕ) (t h left free : ℕ) where
-  pub unlink-nil : h ≡ 0 → linksOf ts ds ns (record { free = free; head = 0 }) ≡ unlinkThread (joined ts ds ns) t h left free
+module _ (ts ds ns : List ℕ) (all : Bool) (t h left free : ℕ) where
+  pub unlink-nil : h ≡ 0 → linksOf ts ds ns (record { free = free; head = 0 }) ≡ unlinkFrom all (joined ts ds ns) t h left free
   unfolding unlink
   unlink-nil e = rw (walk-nil (waiterNexts (joined ts ds ns)) left h e)
 
-  pub unlink-out : left ≡ 0 → linksOf ts ds ns (record { free = free; head = 0 }) ≡ unlinkThread (joined ts ds ns) t h left free
+  pub unlink-out : left ≡ 0 → linksOf ts ds ns (record { free = free; head = 0 }) ≡ unlinkFrom all (joined ts ds ns) t h left free
   unfolding unlink
   unlink-out e = rw (walk-out (waiterNexts (joined ts ds ns)) left h e)
 
   module _ (e : length ts ≡ length ns) (f : length ds ≡ length ns) (p : left ≢ 0) (q : h ≢ 0) (us vs ws : List ℕ) (u : Ends)
-      (r : linksOf us vs ws u ≡ unlinkThread (joined ts ds ns) t (at ns h) (left - 1) free) where
-    go-on : link (not (eqb (at ts h) t)) h (linksOf us vs ws u) ≡ unlinkThread (joined ts ds ns) t h left free
+      (r : linksOf us vs ws u ≡ unlinkFrom all (joined ts ds ns) t (at ns h) (left - 1) free) where
+    go-on : link (kept all (at ts h) t) h (linksOf us vs ws u) ≡ unlinkFrom all (joined ts ds ns) t h left free
     go-on =
         let a : at ns h ≡ waiterAt (joined ts ds ns) h .next = ap (λ l. at l h) (sym (nexts-joined ts ds ns e f)) ∙ at-next (joined ts ds ns) h in
         let b : at ts h ≡ waiterAt (joined ts ds ns) h .thread = ap (λ l. at l h) (sym (threads-joined ts ds ns e f)) ∙ at-thread (joined ts ds ns) h in
-        ap (λ (z : Links). link (not (eqb (at ts h) t)) h z) r
-        ∙ rw (a, b) (unlink-go (joined ts ds ns) left h p q (λ x. not (eqb (waiterAt (joined ts ds ns) x .thread) t)) free)
+        ap (λ (z : Links). link (kept all (at ts h) t) h z) r
+        ∙ rw (a, b) (unlink-go (joined ts ds ns) left h p q (λ x. kept all (waiterAt (joined ts ds ns) x .thread) t) free)
 
-    pub unlink-keep : at ts h ≢ t → linksOf us vs (put ws h (u .head)) (record { free = u .free; head = h }) ≡ unlinkThread (joined ts ds ns) t h left free
-    unlink-keep n = rw (put-next us vs ws h (u .head)) (rw (ne-eqb (at ts h) t n) at go-on)
+    pub unlink-keep : kept all (at ts h) t ≡ true → linksOf us vs (put ws h (u .head)) (record { free = u .free; head = h }) ≡ unlinkFrom all (joined ts ds ns) t h left free
+    unlink-keep n = rw (put-next us vs ws h (u .head)) (rw n at go-on)
 
-    pub unlink-free : at ts h ≡ t
-        → linksOf (put us h 0) (put vs h 0) (put ws h (u .free)) (record { free = h; head = u .head }) ≡ unlinkThread (joined ts ds ns) t h left free
-    unlink-free n = rw (put-freed us vs ws h (u .free)) (rw (eq-eqb (at ts h) t n) at go-on)
+    pub unlink-free : kept all (at ts h) t ≡ false
+        → linksOf (put us h 0) (put vs h 0) (put ws h (u .free)) (record { free = h; head = u .head }) ≡ unlinkFrom all (joined ts ds ns) t h left free
+    unlink-free n = rw (put-freed us vs ws h (u .free)) (rw n at go-on)
 
 -- ---- columns joined from left to right
 pub join-more : (ts ds ns : List ℕ) (l : List Waiter) (i : ℕ) → i < length ts → i < length ds → i < length ns → i < length l

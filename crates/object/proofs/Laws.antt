@@ -166,40 +166,41 @@ at-next l r = at-waiters (λ (w : Waiter). w .next) l r refl
 pub at-thread : (l : List Waiter) (r : ℕ) → at (waiterThreads l) r ≡ waiterAt l r .thread
 at-thread l r = at-waiters (λ (w : Waiter). w .thread) l r refl
 
-at-address : (l : List Waiter) (r : ℕ) → at (waiterAddresses l) r ≡ waiterAt l r .address
-at-address l r = at-waiters (λ (w : Waiter). w .address) l r refl
-
 -- ---- the walk of a chain, by the code's cases
-module _ (ws : List Waiter) (left h : ℕ) (p : left ≢ 0) (q : h ≢ 0) where
-  walk-on : walk (waiterNexts ws) left h ≡ h ∷ walk (waiterNexts ws) (left - 1) (waiterAt ws h .next)
-  walk-on = rw (← at-next ws h) (walk-go (waiterNexts ws) left h p q)
+pub unlink-go : (ws : List Waiter) (left h : ℕ) → left ≢ 0 → h ≢ 0 → (keep : ℕ → Bool) (free : ℕ)
+    → link (keep h) h (unlink keep ws free (walk (waiterNexts ws) (left - 1) (waiterAt ws h .next))) ≡ unlink keep ws free (walk (waiterNexts ws) left h)
+unfolding unlink
+unlink-go ws left h p q keep free = rw (walk-go (waiterNexts ws) left h p q, at-next ws h)
 
-  pub unlink-go : (keep : ℕ → Bool) (free : ℕ)
-      → link (keep h) h (unlink keep ws free (walk (waiterNexts ws) (left - 1) (waiterAt ws h .next))) ≡ unlink keep ws free (walk (waiterNexts ws) left h)
-  unfolding unlink
-  unlink-go keep free = rw walk-on
-
-  pub last-go : (x : ℕ) → lastOf (h ∷ walk (waiterNexts ws) (left - 1) (waiterAt ws h .next)) ≡ lastOf (x ∷ walk (waiterNexts ws) left h)
+module _ (nx : List ℕ) (left h : ℕ) (p : left ≢ 0) (q : h ≢ 0) where
+  pub last-go : (x : ℕ) → lastOf (h ∷ walk nx (left - 1) (at nx h)) ≡ lastOf (x ∷ walk nx left h)
   unfolding lastOf
-  last-go x = rw walk-on
+  last-go x = rw (walk-go nx left h p q)
 
-  module _ (t a : ℕ) where
-    pub has-here : waiterAt ws h .thread ≡ t → waiterAt ws h .address ≡ a
-        → true ≡ has? (waiterThreads ws) (waiterAddresses ws) t a (walk (waiterNexts ws) left h)
+  module _ (ts ad : List ℕ) (t a : ℕ) where
+    pub has-here : at ts h ≡ t → at ad h ≡ a → true ≡ has? ts ad t a (walk nx left h)
     unfolding has? _and_ _or_
-    has-here e f = rw (walk-on, at-thread ws h, at-address ws h, eq-eqb _ _ e, eq-eqb _ _ f)
+    has-here e f = rw (walk-go nx left h p q, eq-eqb _ _ e, eq-eqb _ _ f)
 
-    pub has-thread : waiterAt ws h .thread ≢ t
-        → has? (waiterThreads ws) (waiterAddresses ws) t a (walk (waiterNexts ws) (left - 1) (waiterAt ws h .next)) ≡ has? (waiterThreads ws) (waiterAddresses ws) t a (walk (waiterNexts ws) left h)
+    pub has-thread : at ts h ≢ t → has? ts ad t a (walk nx (left - 1) (at nx h)) ≡ has? ts ad t a (walk nx left h)
     unfolding has? _and_ _or_
-    has-thread e = rw (walk-on, at-thread ws h, ne-eqb _ _ e)
+    has-thread e = rw (walk-go nx left h p q, ne-eqb _ _ e)
 
-    pub has-address : waiterAt ws h .address ≢ a
-        → has? (waiterThreads ws) (waiterAddresses ws) t a (walk (waiterNexts ws) (left - 1) (waiterAt ws h .next)) ≡ has? (waiterThreads ws) (waiterAddresses ws) t a (walk (waiterNexts ws) left h)
+    pub has-address : at ad h ≢ a → has? ts ad t a (walk nx (left - 1) (at nx h)) ≡ has? ts ad t a (walk nx left h)
     unfolding has? _or_
-    has-address e = rw (walk-on, at-address ws h, ne-eqb _ _ e, and-false (eqb (at (waiterThreads ws) h) t))
+    has-address e = rw (walk-go nx left h p q, ne-eqb _ _ e, and-false (eqb (at ts h) t))
 
--- a chain that starts nowhere in front of it
+-- a chain that starts nowhere
+module _ (nx : List ℕ) (left h : ℕ) (e : h ≡ 0) where
+  pub last-none : 0 ≡ lastOf (walk nx left h)
+  unfolding lastOf
+  last-none = rw (walk-nil nx left h e)
+
+  pub has-none : (ts ad : List ℕ) (t a : ℕ) → has? ts ad t a (walk nx left h) ≡ false
+  unfolding has?
+  has-none ts ad t a = rw (walk-nil nx left h e)
+
+-- nothing in front of a chain
 pub last-zero : (xs : List ℕ) → lastOf (0 ∷ xs) ≡ lastOf xs
 unfolding lastOf
 last-zero [] = refl
@@ -266,14 +267,6 @@ module _ (s : ObjectStore) (o t a : ℕ) where
     pub push-new : has? (waiterThreads (s .waiters)) (waiterAddresses (s .waiters)) t a (chainOf s o) ≡ false → pushed s o t a ≡ push s o t a
     unfolding push
     push-new f = sym (pick-yes (isArbiter (objectAt s o)) _ s e ∙ pick-no (has? (waiterThreads (s .waiters)) (waiterAddresses (s .waiters)) t a (chainOf s o)) s _ f)
-
--- ---- the last holder goes: every record of the object
-pub every-record : _≡_ {A = ℕ → Bool} (λ x. eqb (getD (1 ∷ []) x 1) 0) (λ x. false)
-every-record = λ i x. one x i
-  where
-    one : (x : ℕ) → eqb (getD (1 ∷ []) x 1) 0 ≡ false
-    one zero = refl
-    one (suc x) = refl
 
 -- ---- a handle goes
 module _ (t : HandleTable) (s : ObjectStore) (h : ℕ) where

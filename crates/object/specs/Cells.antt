@@ -1,7 +1,7 @@
--- The records of arbiters ds columns: the record at a number is made of the cells at that number.
+-- The records of arbiters as columns: the record at a number is made of the cells at that number.
 use mathlib.Core.Path.{_≡_, refl, ap}
-use mathlib.Core.Bool.{not}
-use mathlib.Core.List.{List, [], _∷_, map}
+use mathlib.Core.Bool.{Bool, true, false, not}
+use mathlib.Core.List.{List, [], _∷_}
 use Prim.Native.Nat.{ℕ, zero, suc}
 use native.Mathlib.Omega.{arith}
 use lib.Dec.{eqb}
@@ -23,9 +23,14 @@ joined (t ∷ ts) (a ∷ ds) (n ∷ ns) = record { thread = t; address = a; next
 abbrev pub linksOf : List ℕ → List ℕ → List ℕ → Ends → Links
 linksOf ts ds ns e = record { waiters = joined ts ds ns; free = e .free; head = e .head }
 
--- the chain from h without the records of thread t
-abbrev pub unlinkThread : List Waiter → ℕ → ℕ → ℕ → ℕ → Links
-unlinkThread ws t h left free = unlink (λ x. not (eqb (waiterAt ws x .thread) t)) ws free (walk (waiterNexts ws) left h)
+-- whether a record of thread x stays when those of thread t go, or all
+abbrev pub kept : Bool → ℕ → ℕ → Bool
+kept true x t = false
+kept false x t = not (eqb x t)
+
+-- the chain from h without the records of thread t, or without all of them
+abbrev pub unlinkFrom : Bool → List Waiter → ℕ → ℕ → ℕ → ℕ → Links
+unlinkFrom all ws t h left free = unlink (λ x. kept all (waiterAt ws x .thread) t) ws free (walk (waiterNexts ws) left h)
 
 -- ---- there and back
 pub joined-columns : (ws : List Waiter) → joined (waiterThreads ws) (waiterAddresses ws) (waiterNexts ws) ≡ ws

@@ -133,17 +133,6 @@ pub fn release(s: ObjectStore, o: ObjectId) -> ObjectStore
     }
     // The mark stays with the slot.
     let mark = old.pulsed;
-    let ws = s.waiters;
-    let every = [1u32; 1];
-    let u = waiters::unlink(
-        ws,
-        &every,
-        1,
-        types::object::head_of(object),
-        64,
-        s.free_waiter,
-    );
-    let l = u.waiters;
     let mut q = slots::put_slot(
         s,
         o,
@@ -154,8 +143,14 @@ pub fn release(s: ObjectStore, o: ObjectId) -> ObjectStore
         },
     );
     q.free = o.0;
-    q.waiters = l;
-    q.free_waiter = u.free;
+    let head = types::object::head_of(object);
+    if head != 0 {
+        let ws = s.waiters;
+        let u = waiters::free_chain(ws, head, s.free_waiter);
+        let l = u.waiters;
+        q.waiters = l;
+        q.free_waiter = u.free;
+    }
     q
 }
 

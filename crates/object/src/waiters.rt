@@ -8,19 +8,19 @@ use types::object::Waiter;
 use types::sync::AddressArbiter;
 use units::ObjectId;
 ghost use mathlib.Core.Path.{_≡_};
-ghost use mathlib.Core.Bool.{not};
+ghost use mathlib.Core.Bool.{false};
 ghost use mathlib.Core.List.{_∷_};
 ghost use Prim.Native.Nat.{_+_, _-_, _<_, _≤_};
 ghost use lib.Dec.{eqb};
-ghost use lib.ListN.{length, getD};
-ghost use Rattle.laws.specs.Logic.{pick, _or_};
+ghost use lib.ListN.{length};
+ghost use Rattle.laws.specs.Logic.{pick};
 ghost use Rattle.laws.specs.Count as cells;
 ghost use Rattle.laws.specs.Walk.{walk};
-ghost use Rattle.sound.specs.View.{waiterNexts, waiterThreads, waiterAddresses};
+ghost use Rattle.sound.specs.View.{waiterNexts};
 ghost use Rattle.sound.specs.Records as chains;
 ghost use Rattle.object.specs.Slots.{withObject};
 ghost use Rattle.object.specs.Waiters as def;
-ghost use Rattle.object.specs.Cells.{joined, linksOf, unlinkThread};
+ghost use Rattle.object.specs.Cells.{joined, linksOf, kept, unlinkFrom};
 
 // The records, the first free one, and the first that a chain keeps.
 pub struct Links {
@@ -65,78 +65,6 @@ fn put_waiter(ws: [Waiter; 64], x: u32, w: Waiter) -> [Waiter; 64]
     l
 }
 
-// The record x goes in front of what is kept, or of the free chain.
-fn link(keep: bool, x: u32, u: Links) -> Links
-    ensures { λ r. ⌜ r ≡ def.link keep x u ⌝ }
-{
-    let ws = u.waiters;
-    if keep {
-        let w = waiter_at(ws, x);
-        let l = put_waiter(
-            ws,
-            x,
-            Waiter {
-                thread: w.thread,
-                address: w.address,
-                next: u.head,
-            },
-        );
-        return Links {
-            waiters: l,
-            free: u.free,
-            head: x,
-        };
-    }
-    let l = put_waiter(
-        ws,
-        x,
-        Waiter {
-            thread: 0,
-            address: 0,
-            next: u.free,
-        },
-    );
-    Links {
-        waiters: l,
-        free: x,
-        head: u.head,
-    }
-}
-
-// Whether the record x is not marked; one past the marks has the mark past.
-fn unmarked(gone: &[u32], past: u32, x: u32) -> bool
-    ensures { λ r. ⌜ r ≡ eqb (getD (now (gone .entry)) x past) 0 ⌝ }
-{
-    let i = x as usize;
-    if gone.len() <= i {
-        return past == 0;
-    }
-    gone[i] == 0
-}
-
-// The chain from at without the marked records, which are free again.
-pub fn unlink(ws: [Waiter; 64], gone: &[u32], past: u32, at: u32, left: u32, free: u32) -> Links
-    ensures { λ r. ⌜ r ≡ def.unlink (λ x. eqb (getD (now (gone .entry)) x past) 0) ws free (walk (waiterNexts ws) left at) ⌝ }
-{
-    if at == 0 {
-        return Links {
-            waiters: ws,
-            free: free,
-            head: 0,
-        };
-    }
-    if left == 0 {
-        return Links {
-            waiters: ws,
-            free: free,
-            head: 0,
-        };
-    }
-    let w = waiter_at(ws, at);
-    let u = unlink(ws, gone, past, w.next, left - 1, free);
-    link(unmarked(gone, past, at), at, u)
-}
-
 // The first free record, and the first that a chain keeps.
 pub struct Ends {
     pub free: u32,
@@ -172,12 +100,23 @@ pub fn put_cell(l: &mut [u32; 64], x: u32, v: u32)
     l[i] = v;
 }
 
-// The chain from at without the records of thread t, which are free again. The records are lent as columns, so that
-// no step of the walk copies the table.
-fn unlink_thread(
+// Whether a record of thread x stays when those of thread t go, or all.
+fn stays(all: bool, x: u32, t: u32) -> bool
+    ensures { λ r. ⌜ r ≡ kept all x t ⌝ }
+{
+    if all {
+        return false;
+    }
+    x != t
+}
+
+// The chain from at without the records of thread t, or without all of them; what goes is free again. The records are
+// lent as columns, so that no step of the walk copies the table.
+fn unlink(
     threads: &mut [u32; 64],
     addresses: &mut [u32; 64],
     nexts: &mut [u32; 64],
+    all: bool,
     t: u32,
     at: u32,
     left: u32,
@@ -186,7 +125,7 @@ fn unlink_thread(
     requires { ⌜ length (now threads) ≡ 64 ⌝ }
     requires { ⌜ length (now addresses) ≡ 64 ⌝ }
     requires { ⌜ length (now nexts) ≡ 64 ⌝ }
-    ensures { λ r. ⌜ linksOf (now (threads .exit)) (now (addresses .exit)) (now (nexts .exit)) r ≡ unlinkThread (joined (now (threads .entry)) (now (addresses .entry)) (now (nexts .entry))) t at left free ⌝ }
+    ensures { λ r. ⌜ linksOf (now (threads .exit)) (now (addresses .exit)) (now (nexts .exit)) r ≡ unlinkFrom all (joined (now (threads .entry)) (now (addresses .entry)) (now (nexts .entry))) t at left free ⌝ }
     ensures { λ _. ⌜ length (now (threads .exit)) ≡ 64 ⌝ }
     ensures { λ _. ⌜ length (now (addresses .exit)) ≡ 64 ⌝ }
     ensures { λ _. ⌜ length (now (nexts .exit)) ≡ 64 ⌝ }
@@ -203,10 +142,10 @@ fn unlink_thread(
             head: 0,
         };
     }
-    let owner = cell(threads, at);
+    let keep = stays(all, cell(threads, at), t);
     let next = cell(nexts, at);
-    let u = unlink_thread(threads, addresses, nexts, t, next, left - 1, free);
-    if owner != t {
+    let u = unlink(threads, addresses, nexts, all, t, next, left - 1, free);
+    if keep {
         put_cell(nexts, at, u.head);
         return Ends {
             free: u.free,
@@ -289,26 +228,29 @@ pub fn headed(s: Slot, h: u32) -> Slot
     }
 }
 
-// Every marked record of the object is taken out; gone has a mark for each number from 0, and 0 is no mark.
-pub fn retain_marked(s: ObjectStore, o: ObjectId, gone: &[u32]) -> ObjectStore
-    ensures { λ r. ⌜ r ≡ def.retain (λ x. eqb (getD (now (gone .entry)) x 0) 0) s (o .0) ⌝ }
+// Every record of the chain from head is free again.
+pub fn free_chain(ws: [Waiter; 64], head: u32, free: u32) -> Links
+    ensures { λ r. ⌜ r ≡ def.unlink (λ _. false) ws free (walk (waiterNexts ws) 64 head) ⌝ }
 {
-    let old = slots::slot_at(s, o);
-    let object = old.object;
-    let ws = s.waiters;
+    let mut threads = tally::columns::threads_of(ws);
+    let mut addresses = tally::columns::addresses_of(ws);
+    let mut nexts = tally::columns::nexts_of(ws);
     let u = unlink(
-        ws,
-        gone,
+        &mut threads,
+        &mut addresses,
+        &mut nexts,
+        true,
         0,
-        types::object::head_of(object),
+        head,
         64,
-        s.free_waiter,
+        free,
     );
-    let l = u.waiters;
-    let mut q = slots::put_slot(s, o, headed(old, u.head));
-    q.waiters = l;
-    q.free_waiter = u.free;
-    q
+    let l = join(threads, addresses, nexts);
+    Links {
+        waiters: l,
+        free: u.free,
+        head: u.head,
+    }
 }
 
 // All records of a thread, in every arbiter.
@@ -327,7 +269,16 @@ pub fn drop_thread(s: ObjectStore, t: u32) -> ObjectStore
         let object = old.object;
         let head = types::object::head_of(object);
         if head != 0 {
-            let u = unlink_thread(&mut threads, &mut addresses, &mut nexts, t, head, 64, free);
+            let u = unlink(
+                &mut threads,
+                &mut addresses,
+                &mut nexts,
+                false,
+                t,
+                head,
+                64,
+                free,
+            );
             q.slots[i] = headed(old, u.head);
             free = u.free;
         }
@@ -340,8 +291,19 @@ pub fn drop_thread(s: ObjectStore, t: u32) -> ObjectStore
 }
 
 // Whether a record of the chain from at is that of thread t and address a.
-fn has_record(ws: [Waiter; 64], t: u32, a: u32, at: u32, left: u32) -> bool
-    ensures { λ r. ⌜ r ≡ chains.has? (waiterThreads ws) (waiterAddresses ws) t a (walk (waiterNexts ws) left at) ⌝ }
+fn has_record<'a>(
+    nexts: &'a [u32; 64],
+    threads: &'a [u32; 64],
+    addresses: &'a [u32; 64],
+    t: u32,
+    a: u32,
+    at: u32,
+    left: u32,
+) -> bool
+    requires { ⌜ length (now nexts) ≡ 64 ⌝ }
+    requires { ⌜ length (now threads) ≡ 64 ⌝ }
+    requires { ⌜ length (now addresses) ≡ 64 ⌝ }
+    ensures { λ r. ⌜ r ≡ chains.has? (now (threads .entry)) (now (addresses .entry)) t a (walk (now (nexts .entry)) left at) ⌝ }
 {
     if at == 0 {
         return false;
@@ -349,18 +311,18 @@ fn has_record(ws: [Waiter; 64], t: u32, a: u32, at: u32, left: u32) -> bool
     if left == 0 {
         return false;
     }
-    let w = waiter_at(ws, at);
-    if w.thread == t {
-        if w.address == a {
+    if cell(threads, at) == t {
+        if cell(addresses, at) == a {
             return true;
         }
     }
-    has_record(ws, t, a, w.next, left - 1)
+    has_record(nexts, threads, addresses, t, a, cell(nexts, at), left - 1)
 }
 
 // The last record of the chain from at, or the prior one if the chain has none.
-fn last_of(ws: [Waiter; 64], prior: u32, at: u32, left: u32) -> u32
-    ensures { λ r. ⌜ r ≡ def.lastOf (prior ∷ walk (waiterNexts ws) left at) ⌝ }
+fn last_of(nexts: &[u32; 64], prior: u32, at: u32, left: u32) -> u32
+    requires { ⌜ length (now nexts) ≡ 64 ⌝ }
+    ensures { λ r. ⌜ r ≡ def.lastOf (prior ∷ walk (now (nexts .entry)) left at) ⌝ }
 {
     if at == 0 {
         return prior;
@@ -368,8 +330,7 @@ fn last_of(ws: [Waiter; 64], prior: u32, at: u32, left: u32) -> u32
     if left == 0 {
         return prior;
     }
-    let w = waiter_at(ws, at);
-    last_of(ws, at, w.next, left - 1)
+    last_of(nexts, at, cell(nexts, at), left - 1)
 }
 
 fn first_of(head: u32, r: u32) -> u32
@@ -398,7 +359,9 @@ fn hang(ws: [Waiter; 64], last: u32, r: u32, w: Waiter) -> [Waiter; 64]
     put_waiter(l, r, w)
 }
 
-fn pushed(s: ObjectStore, o: ObjectId, t: u32, a: u32) -> ObjectStore
+// last is the last record of the object's chain, 0 if there is none.
+fn pushed(s: ObjectStore, o: ObjectId, t: u32, a: u32, last: u32) -> ObjectStore
+    requires { ⌜ last ≡ def.lastOf (chains.chainOf s (o .0)) ⌝ }
     ensures { λ r. ⌜ r ≡ def.pushed s (o .0) t a ⌝ }
 {
     let old = slots::slot_at(s, o);
@@ -406,7 +369,6 @@ fn pushed(s: ObjectStore, o: ObjectId, t: u32, a: u32) -> ObjectStore
     let ws = s.waiters;
     let r = s.free_waiter;
     let head = types::object::head_of(object);
-    let last = last_of(ws, 0, head, 64);
     let unused = waiter_at(ws, r);
     let l = hang(
         ws,
@@ -437,9 +399,17 @@ pub fn push(s: ObjectStore, o: ObjectId, t: u32, a: u32) -> ObjectStore
     if !is_arbiter(object) {
         return s;
     }
-    let ws = s.waiters;
-    if has_record(ws, t, a, types::object::head_of(object), 64) {
-        return s;
+    let head = types::object::head_of(object);
+    let mut last: u32 = 0;
+    if head != 0 {
+        let ws = s.waiters;
+        let nexts = tally::columns::nexts_of(ws);
+        let threads = tally::columns::threads_of(ws);
+        let addresses = tally::columns::addresses_of(ws);
+        if has_record(&nexts, &threads, &addresses, t, a, head, 64) {
+            return s;
+        }
+        last = last_of(&nexts, 0, head, 64);
     }
-    pushed(s, o, t, a)
+    pushed(s, o, t, a, last)
 }

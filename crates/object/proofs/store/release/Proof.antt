@@ -1,6 +1,9 @@
+use mathlib.Core.Path.{sym, _∙_}
+use Rattle.laws.specs.Walk.{walk-nil}
+use Rattle.sound.specs.View.{waiterNexts}
+use Rattle.object.specs.Waiters.{unlink}
 use borrow.Author.Tests.{le-leb, lt-leb, eq-eqb, ne-eqb}
 use Rattle.object.specs.Store.{release, release-if}
-use Rattle.object.proofs.Laws.{every-record}
 use borrow.Author.Needs.{needs}
 use Rattle.object.proofs.store.release.Statement.{statement}
 use Rattle.object.proofs.store.release.Tie as tie
@@ -32,29 +35,37 @@ returns-2 c = let l = c .before .before in
     let two = rw (b .slot-at .ensures) at (le-leb _ _ (c .before .if2 .taken)) in
     rw (c .put-slot .ensures, b .slot-at .ensures, live, two)
 
-slice-aggregate-unlink : tie.Need-slice-aggregate-unlink
-slice-aggregate-unlink c = search needs
+put-slot-requires-2 : tie.Need-put-slot-requires-2
+put-slot-requires-2 c κs = search needs
 
 head-of-requires : tie.Need-head-of-requires
 head-of-requires c κs = search needs
 
-unlink-requires : tie.Need-unlink-requires
-unlink-requires c κs = search needs
-
-put-slot-requires-2 : tie.Need-put-slot-requires-2
-put-slot-requires-2 c κs = search needs
+free-chain-requires : tie.Need-free-chain-requires
+free-chain-requires c κs = search needs
 
 returns-3 : tie.Need-returns-3
 unfolding release release-if
-returns-3 c = let u = c .before .before in
-    let h = u .before in
-    let a = h .before .before .before in
+returns-3 c = let h = c .before .before .before .before in
+    let a = h .before .before in
     let l = a .before in
     let k = l .before in
     let b = k .before in
     let live = rw (k .kind-number .ensures, b .slot-at .ensures) at (ne-eqb _ _ (l .if1 .left)) in
     let last = rw (b .slot-at .ensures) at (lt-leb _ _ (a .if2 .left)) in
-    rw (c .put-slot2 .ensures, u .unlink .ensures, h .head-of .ensures, every-record, b .slot-at .ensures, live, last)
+    rw (h .before .put-slot2 .ensures, c .before .free-chain .ensures, h .head-of .ensures, b .slot-at .ensures, live, last)
+
+returns-4 : tie.Need-returns-4
+unfolding release release-if unlink
+returns-4 c = let h = c .before in
+    let a = h .before .before in
+    let l = a .before in
+    let k = l .before in
+    let b = k .before in
+    let live = rw (k .kind-number .ensures, b .slot-at .ensures) at (ne-eqb _ _ (l .if1 .left)) in
+    let last = rw (b .slot-at .ensures) at (lt-leb _ _ (a .if2 .left)) in
+    let none = rw (b .slot-at .ensures) at (sym (h .head-of .ensures) ∙ c .if3 .left) in
+    rw (h .before .put-slot2 .ensures, b .slot-at .ensures, live, last, walk-nil (waiterNexts (b .before .args .s .waiters)) 64 _ none)
 
 pub release-spec : {M : Type 1} → statement M
 release-spec =
@@ -66,8 +77,8 @@ release-spec =
     sub-t14
     put-slot-requires
     returns-2
-    slice-aggregate-unlink
-    head-of-requires
-    unlink-requires
     put-slot-requires-2
-    returns-3)
+    head-of-requires
+    free-chain-requires
+    returns-3
+    returns-4)

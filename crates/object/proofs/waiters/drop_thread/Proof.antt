@@ -1,8 +1,7 @@
-use mathlib.Core.Path.{_≡_, refl, ap, sym, _∙_}
+use mathlib.Core.Path.{_≡_, ap, sym, _∙_}
 use mathlib.Core.Logic.{⊎-elim}
 use mathlib.Core.List.{List}
-use Prim.Native.Nat.{ℕ, _+_, _-_, _≤_}
-use native.Mathlib.Omega.{arith}
+use Prim.Native.Nat.{_+_, _-_, _≤_}
 use lib.ListN.{length, length-set, length-map}
 use Rattle.types.specs.declared.object.Waiter.{Waiter}
 use Rattle.object.specs.Waiters.{dropThread}
@@ -11,15 +10,6 @@ use Rattle.object.proofs.Laws.{withRecords, drop-head, drop-none, drop-
 use borrow.Author.Needs.{needs}
 use Rattle.object.proofs.waiters.drop_thread.Statement.{statement}
 use Rattle.object.proofs.waiters.drop_thread.Tie as tie
-use Rattle.object.proofs.waiters.drop_thread.Reads as reads
-use Rattle.object.proofs.waiters.drop_thread.Lts as lts
-use Rattle.object.proofs.waiters.headed.Reads as headed-reads
-use Rattle.object.proofs.waiters.join.Reads as join-reads
-use Rattle.object.proofs.waiters.unlink_thread.Reads as unlink-thread-reads
-use Rattle.tally.proofs.columns.addresses_of.Reads as addresses-of-reads
-use Rattle.tally.proofs.columns.nexts_of.Reads as nexts-of-reads
-use Rattle.tally.proofs.columns.threads_of.Reads as threads-of-reads
-use Rattle.types.proofs.object.head_of.Reads as head-of-reads
 
 abbrev Inv-loop : tie.InvT-loop
 Inv-loop t threads₀ addresses₀ nexts₀ q₀ free₀ i₀ threads addresses nexts q free i =
@@ -33,19 +23,15 @@ Inv-loop t threads₀ addresses₀ nexts₀ q₀ free₀ i₀ threads addresses 
 abbrev μ-loop : tie.MeasureT-loop
 μ-loop t threads₀ addresses₀ nexts₀ q₀ free₀ i₀ threads addresses nexts q free i = 128 - i
 
--- src/waiters.rt:305:23
 threads-of-requires : tie.Need-threads-of-requires Inv-loop μ-loop
 threads-of-requires c κs = search needs
 
--- src/waiters.rt:306:25
 addresses-of-requires : tie.Need-addresses-of-requires Inv-loop μ-loop
 addresses-of-requires c κs = search needs
 
--- src/waiters.rt:307:21
 nexts-of-requires : tie.Need-nexts-of-requires Inv-loop μ-loop
 nexts-of-requires c κs = search needs
 
--- src/waiters.rt:311:5
 loop-holds : tie.Need-loop-holds Inv-loop μ-loop
 loop-holds c =
     let s = c .before .before .before .before in
@@ -68,43 +54,33 @@ loop-holds c =
       ),
     )
 
--- src/waiters.rt:312:19
 mul-old : tie.Need-mul-old Inv-loop μ-loop
 mul-old c = search needs
 
--- src/waiters.rt:312:19
 element-copy-out-old : tie.Need-element-copy-out-old Inv-loop μ-loop
 element-copy-out-old c = search needs
 
--- src/waiters.rt:314:13
 head-of-requires : tie.Need-head-of-requires Inv-loop μ-loop
 head-of-requires c κs = search needs
 
--- src/waiters.rt:316:17
-unlink-thread-requires : tie.Need-unlink-thread-requires Inv-loop μ-loop
-unlink-thread-requires c κs = search needs
+unlink-requires : tie.Need-unlink-requires Inv-loop μ-loop
+unlink-requires c κs = search needs
 
--- src/waiters.rt:325:26
 headed-requires : tie.Need-headed-requires Inv-loop μ-loop
 headed-requires c κs = search needs
 
--- src/waiters.rt:325:13
 mul-t25 : tie.Need-mul-t25 Inv-loop μ-loop
 mul-t25 c = search needs
 
--- src/waiters.rt:325:13
 element-set-from-q : tie.Need-element-set-from-q Inv-loop μ-loop
 element-set-from-q c = search needs
 
--- src/waiters.rt:328:9
 add-i : tie.Need-add-i Inv-loop μ-loop
 add-i c = search needs
 
--- src/waiters.rt:311:5
 loop-less : tie.Need-loop-less Inv-loop μ-loop
 loop-less c = search needs
 
--- src/waiters.rt:311:5
 loop-again : tie.Need-loop-again Inv-loop μ-loop
 loop-again c =
     let l = c .before .before .before .before .loop in
@@ -144,11 +120,9 @@ loop-again c =
           (c .if1 .came),
     )
 
--- src/waiters.rt:330:9
 join-requires : tie.Need-join-requires Inv-loop μ-loop
 join-requires c κs = search needs
 
--- src/waiters.rt:301:1
 returns : tie.Need-returns Inv-loop μ-loop
 returns c =
     let l = c .before .before .loop in
@@ -168,7 +142,7 @@ drop-thread-spec =
     mul-old
     element-copy-out-old
     head-of-requires
-    unlink-thread-requires
+    unlink-requires
     headed-requires
     mul-t25
     element-set-from-q

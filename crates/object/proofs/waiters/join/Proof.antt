@@ -16,59 +16,46 @@ Inv-loop threads addresses nexts l₀ i₀ l i = (i ≤ 64) × ((length l ≡ 64
 abbrev μ-loop : tie.MeasureT-loop
 μ-loop threads addresses nexts l₀ i₀ l i = 64 - i
 
--- src/waiters.rt:222:5
 loop-holds : tie.Need-loop-holds Inv-loop μ-loop
 unfolding joined
 loop-holds c = (search needs, (search needs, refl))
 
--- src/waiters.rt:224:21
 mul-t11 : tie.Need-mul-t11 Inv-loop μ-loop
 mul-t11 c = search needs
 
--- src/waiters.rt:224:21
 array-read-t14 : tie.Need-array-read-t14 Inv-loop μ-loop
 array-read-t14 c = search needs
 
--- src/waiters.rt:225:22
 mul-t15 : tie.Need-mul-t15 Inv-loop μ-loop
 mul-t15 c = search needs
 
--- src/waiters.rt:225:22
 array-read-t18 : tie.Need-array-read-t18 Inv-loop μ-loop
 array-read-t18 c = search needs
 
--- src/waiters.rt:226:19
 mul-t19 : tie.Need-mul-t19 Inv-loop μ-loop
 mul-t19 c = search needs
 
--- src/waiters.rt:226:19
 array-read-t22 : tie.Need-array-read-t22 Inv-loop μ-loop
 array-read-t22 c = search needs
 
--- src/waiters.rt:223:9
 mul-l : tie.Need-mul-l Inv-loop μ-loop
 mul-l c = search needs
 
--- src/waiters.rt:223:9
 array-set-from-l : tie.Need-array-set-from-l Inv-loop μ-loop
 array-set-from-l c = search needs
 
--- src/waiters.rt:228:9
 add-i : tie.Need-add-i Inv-loop μ-loop
 add-i c = search needs
 
--- src/waiters.rt:222:5
 loop-less : tie.Need-loop-less Inv-loop μ-loop
 loop-less c = search needs
 
--- src/waiters.rt:222:5
 loop-again : tie.Need-loop-again Inv-loop μ-loop
 loop-again c =
     let l = c .before .loop in
     let s = c .before .before in
     (search needs, (search needs, join-more (s .args .t1) (s .args .t2) (s .args .t3) (l .l) (l .i) (omega (arith, s .good)) (omega (arith, s .good)) (omega (arith, s .good)) (omega arith) (l .inv .1 .1)))
 
--- src/waiters.rt:212:1
 returns : tie.Need-returns Inv-loop μ-loop
 returns c =
     let l = c .before .loop in

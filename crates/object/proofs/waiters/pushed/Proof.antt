@@ -1,5 +1,5 @@
 use borrow.Author.Tests.{eq-eqb, ne-eqb}
-use Rattle.object.proofs.Laws.{last-zero, first-walk, or-true, or-end}
+use Rattle.object.proofs.Laws.{first-walk, or-true, or-end}
 use borrow.Author.Needs.{needs}
 use Rattle.object.proofs.waiters.pushed.Statement.{statement}
 use Rattle.object.proofs.waiters.pushed.Tie as tie
@@ -9,9 +9,6 @@ slot-at-requires c κs = search needs
 
 head-of-requires : tie.Need-head-of-requires
 head-of-requires c κs = search needs
-
-last-of-requires : tie.Need-last-of-requires
-last-of-requires c κs = search needs
 
 waiter-at-requires : tie.Need-waiter-at-requires
 waiter-at-requires c κs = search needs
@@ -31,18 +28,16 @@ put-slot-requires c κs = search needs
 returns : tie.Need-returns
 returns c = let p = c .before in
     let h = p .before .before .before in
-    let k = h .before .before .before in
+    let k = h .before .before in
     let b = k .before .before in
-    let s = b .before .args in
-    rw (p .put-slot .ensures, p .before .headed .ensures, p .before .before .first-of .ensures, h .hang .ensures, h .before .waiter-at .ensures, h .before .before .last-of .ensures, last-zero, k .head-of .ensures, b .slot-at .ensures, first-walk, eq-eqb _ _ (c .if1 .taken), or-true)
+    rw (p .put-slot .ensures, p .before .headed .ensures, p .before .before .first-of .ensures, h .hang .ensures, h .before .waiter-at .ensures, b .before .pre, k .head-of .ensures, b .slot-at .ensures, first-walk, eq-eqb _ _ (c .if1 .taken), or-true)
 
 returns-2 : tie.Need-returns-2
 returns-2 c = let p = c .before in
     let h = p .before .before .before in
-    let k = h .before .before .before in
+    let k = h .before .before in
     let b = k .before .before in
-    let s = b .before .args in
-    rw (p .put-slot .ensures, p .before .headed .ensures, p .before .before .first-of .ensures, h .hang .ensures, h .before .waiter-at .ensures, h .before .before .last-of .ensures, last-zero, k .head-of .ensures, b .slot-at .ensures, first-walk, ne-eqb _ _ (c .if1 .left), or-end)
+    rw (p .put-slot .ensures, p .before .headed .ensures, p .before .before .first-of .ensures, h .hang .ensures, h .before .waiter-at .ensures, b .before .pre, k .head-of .ensures, b .slot-at .ensures, first-walk, ne-eqb _ _ (c .if1 .left), or-end)
 
 pub pushed-spec : {M : Type 1} → statement M
 pushed-spec =
@@ -50,7 +45,6 @@ pushed-spec =
     (tie.spec
     slot-at-requires
     head-of-requires
-    last-of-requires
     waiter-at-requires
     hang-requires
     first-of-requires
