@@ -1,77 +1,119 @@
-// The calls by number (`dispatch` of svc.rs), in four ranges, so that the state is handed on once.
+// The calls by number (`dispatch` of svc.rs), in four ranges, so that the state is handed on once. The state that a call
+// leaves goes into the block where the call ends: by value it would be copied on each way up.
+use lent::questions;
 use svc::Registers;
 use svc::Served;
+use svc::WordOption;
 use types::kernel::Kernel;
 ghost use mathlib.Core.Path.{_≡_};
 ghost use Prim.Native.Nat.{_<_, _≤_};
-ghost use lib.ListN.{getD, take};
+ghost use lib.ListN.{length, getD, take};
 ghost use Rattle.svc.specs.Dispatch as def;
 ghost use Rattle.dispatch.specs.Parts.{threadPart, lockPart, signalPart};
+ghost use Rattle.dispatch.specs.Outcome.{outcome, left};
+
+// What a call leaves beside the state; found is what questions 7 and 8 found, 0 for nothing.
+pub struct Outcome {
+    pub found: u32,
+    pub answer: u32,
+    pub r0: WordOption,
+    pub r1: WordOption,
+    pub word: WordOption,
+}
+
+// With a finding the block stays as it is.
+fn finish(block: &mut [u8], s: Served) -> Outcome
+    requires { ⌜ length (now block) ≡ 16384 ⌝ }
+    ensures { λ o. ⌜ o ≡ outcome s ⌝ }
+    ensures { λ _. ⌜ now (block .exit) ≡ left s (now (block .entry)) ⌝ }
+{
+    let after = s.kernel;
+    let r0 = s.r0;
+    let r1 = s.r1;
+    let word = s.word;
+    let found = questions::first_finding(after);
+    if found == 0 {
+        block::encode(block, after);
+    }
+    Outcome {
+        found: found,
+        answer: s.answer,
+        r0: r0,
+        r1: r1,
+        word: word,
+    }
+}
 
 // Numbers below 0x13.
-fn thread_part(number: u32, k: Kernel, r: Registers, tick: u64) -> Served
-    ensures { λ s. ⌜ s ≡ threadPart number k r tick ⌝ }
+fn thread_part(block: &mut [u8], number: u32, k: Kernel, r: Registers, tick: u64) -> Outcome
+    requires { ⌜ length (now block) ≡ 16384 ⌝ }
+    ensures { λ o. ⌜ o ≡ outcome (threadPart number k r tick) ⌝ }
+    ensures { λ _. ⌜ now (block .exit) ≡ left (threadPart number k r tick) (now (block .entry)) ⌝ }
 {
     if number == 0x08 {
-        return calls::threads::create_thread(k, r);
+        return finish(block, calls::threads::create_thread(k, r));
     }
     if number == 0x09 {
-        return calls::threads::exit_thread(k, r);
+        return finish(block, calls::threads::exit_thread(k, r));
     }
     if number == 0x0A {
-        return calls::threads::sleep_thread(k, r, tick);
+        return finish(block, calls::threads::sleep_thread(k, r, tick));
     }
     if number == 0x0C {
-        return calls::threads::set_thread_priority(k, r);
+        return finish(block, calls::threads::set_thread_priority(k, r));
     }
-    calls::call::silent(k)
+    finish(block, calls::call::silent(k))
 }
 
 // 0x13 to 0x16.
-fn lock_part(number: u32, k: Kernel, r: Registers) -> Served
-    ensures { λ s. ⌜ s ≡ lockPart number k r ⌝ }
+fn lock_part(block: &mut [u8], number: u32, k: Kernel, r: Registers) -> Outcome
+    requires { ⌜ length (now block) ≡ 16384 ⌝ }
+    ensures { λ o. ⌜ o ≡ outcome (lockPart number k r) ⌝ }
+    ensures { λ _. ⌜ now (block .exit) ≡ left (lockPart number k r) (now (block .entry)) ⌝ }
 {
     if number == 0x13 {
-        return calls::sync::create_mutex(k, r);
+        return finish(block, calls::sync::create_mutex(k, r));
     }
     if number == 0x14 {
-        return calls::sync::release_mutex(k, r);
+        return finish(block, calls::sync::release_mutex(k, r));
     }
     if number == 0x15 {
-        return calls::sync::create_semaphore(k, r);
+        return finish(block, calls::sync::create_semaphore(k, r));
     }
     if number == 0x16 {
-        return calls::sync::release_semaphore(k, r);
+        return finish(block, calls::sync::release_semaphore(k, r));
     }
-    calls::call::silent(k)
+    finish(block, calls::call::silent(k))
 }
 
 // 0x17 to 0x20.
-fn signal_part(number: u32, k: Kernel, r: Registers, tick: u64) -> Served
-    ensures { λ s. ⌜ s ≡ signalPart number k r tick ⌝ }
+fn signal_part(block: &mut [u8], number: u32, k: Kernel, r: Registers, tick: u64) -> Outcome
+    requires { ⌜ length (now block) ≡ 16384 ⌝ }
+    ensures { λ o. ⌜ o ≡ outcome (signalPart number k r tick) ⌝ }
+    ensures { λ _. ⌜ now (block .exit) ≡ left (signalPart number k r tick) (now (block .entry)) ⌝ }
 {
     if number == 0x17 {
-        return calls::sync::create_event(k, r);
+        return finish(block, calls::sync::create_event(k, r));
     }
     if number == 0x18 {
-        return calls::sync::signal_event(k, r);
+        return finish(block, calls::sync::signal_event(k, r));
     }
     if number == 0x19 {
-        return calls::sync::clear_event(k, r);
+        return finish(block, calls::sync::clear_event(k, r));
     }
     if number == 0x1A {
-        return calls::timers::create_timer(k, r);
+        return finish(block, calls::timers::create_timer(k, r));
     }
     if number == 0x1B {
-        return calls::timers::set_timer(k, r, tick);
+        return finish(block, calls::timers::set_timer(k, r, tick));
     }
     if number == 0x1C {
-        return calls::timers::cancel_timer(k, r, tick);
+        return finish(block, calls::timers::cancel_timer(k, r, tick));
     }
     if number == 0x1D {
-        return calls::timers::clear_timer(k, r, tick);
+        return finish(block, calls::timers::clear_timer(k, r, tick));
     }
-    calls::call::silent(k)
+    finish(block, calls::call::silent(k))
 }
 
 // The word at the address, 0 for a call that reads none.
@@ -85,43 +127,66 @@ fn first_word(words: [u32; 8], n: u32) -> u32
 }
 
 // 0x21 and up; the words are the first n.
-fn handle_part(number: u32, k: Kernel, r: Registers, words: [u32; 8], n: u32, tick: u64) -> Served
-    ensures { λ s. ⌜ s ≡ def.handleCall number k r (take n words) tick ⌝ }
+fn handle_part(
+    block: &mut [u8],
+    number: u32,
+    k: Kernel,
+    r: Registers,
+    words: [u32; 8],
+    n: u32,
+    tick: u64,
+) -> Outcome
+    requires { ⌜ length (now block) ≡ 16384 ⌝ }
+    ensures { λ o. ⌜ o ≡ outcome (def.handleCall number k r (take n words) tick) ⌝ }
+    ensures { λ _. ⌜ now (block .exit) ≡ left (def.handleCall number k r (take n words) tick) (now (block .entry)) ⌝ }
 {
     if number == 0x21 {
-        return calls::arbiter::create_address_arbiter(k, r);
+        return finish(block, calls::arbiter::create_address_arbiter(k, r));
     }
     if number == 0x22 {
         let word = first_word(words, n);
-        return arbiter::arbiter::arbitrate_address(k, r, word, tick);
+        return finish(block, arbiter::arbiter::arbitrate_address(k, r, word, tick));
     }
     if number == 0x23 {
-        return calls::handles::close_handle(k, r);
+        return finish(block, calls::handles::close_handle(k, r));
     }
     if number == 0x24 {
-        return blocking::waits::wait_synchronization1(k, r, tick);
+        return finish(block, blocking::waits::wait_synchronization1(k, r, tick));
     }
     if number == 0x25 {
-        return blocking::wait_n::wait_synchronization_n(k, r, words, n, tick);
+        return finish(
+            block,
+            blocking::wait_n::wait_synchronization_n(k, r, words, n, tick),
+        );
     }
     if number == 0x27 {
-        return calls::handles::duplicate_handle(k, r);
+        return finish(block, calls::handles::duplicate_handle(k, r));
     }
-    calls::call::silent(k)
+    finish(block, calls::call::silent(k))
 }
 
 // The call, on the first n words, which it reads.
-pub fn call(number: u32, k: Kernel, r: Registers, words: [u32; 8], n: u32, tick: u64) -> Served
-    ensures { λ s. ⌜ s ≡ def.call number k r (take n words) tick ⌝ }
+pub fn call(
+    block: &mut [u8],
+    number: u32,
+    k: Kernel,
+    r: Registers,
+    words: [u32; 8],
+    n: u32,
+    tick: u64,
+) -> Outcome
+    requires { ⌜ length (now block) ≡ 16384 ⌝ }
+    ensures { λ o. ⌜ o ≡ outcome (def.call number k r (take n words) tick) ⌝ }
+    ensures { λ _. ⌜ now (block .exit) ≡ left (def.call number k r (take n words) tick) (now (block .entry)) ⌝ }
 {
     if number < 0x13 {
-        return thread_part(number, k, r, tick);
+        return thread_part(block, number, k, r, tick);
     }
     if number < 0x17 {
-        return lock_part(number, k, r);
+        return lock_part(block, number, k, r);
     }
     if number < 0x21 {
-        return signal_part(number, k, r, tick);
+        return signal_part(block, number, k, r, tick);
     }
-    handle_part(number, k, r, words, n, tick)
+    handle_part(block, number, k, r, words, n, tick)
 }

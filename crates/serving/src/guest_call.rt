@@ -1,7 +1,6 @@
 // A guest call, over what is lent.
 use lent::questions;
 use svc::Registers;
-use svc::Served;
 use svc::WordOption;
 use types::kernel::Kernel;
 ghost use mathlib.Core.Path.{_≡_};
@@ -13,7 +12,6 @@ ghost use lib.ListN.{length, take};
 ghost use Rattle.laws.specs.Logic.{pick};
 ghost use Rattle.codec.specs.Bytes.{num, bytes, le, over};
 ghost use Rattle.codec.specs.Layout.{decAll};
-ghost use Rattle.block.specs.Block.{encBlock};
 ghost use Rattle.thread.specs.Threads.{endedThread};
 ghost use Rattle.svc.specs.Table.{rowOf, written};
 ghost use Rattle.svc.specs.Dispatch.{wordsRead, tooMany?, outside?, call};
@@ -93,17 +91,6 @@ fn words_in(window: &[u8], base: u32, number: u32, r: Registers, n: u32) -> [u32
     words_at(window, from as usize, n as usize)
 }
 
-// The call, on the words that it reads.
-fn serve(window: &[u8], base: u32, number: u32, k: Kernel, r: Registers, tick: u64) -> Served
-    requires { ⌜ tooMany? number r ≡ false ⌝ }
-    requires { ⌜ outside? base (length (now window)) number r ≡ false ⌝ }
-    ensures { λ s. ⌜ s ≡ call number k r (def.wordsIn base (now (window .entry)) number r) tick ⌝ }
-{
-    let n = dispatch::questions::words_read(number, r);
-    let words = words_in(window, base, number, r, n);
-    dispatch::call::call(number, k, r, words, n, tick)
-}
-
 // A thread that 0x08 makes gets its row of the bank.
 fn put_bank(bank: &mut [u8], number: u32, k: Kernel, r: Registers)
     requires { ⌜ length (now bank) ≡ 6656 ⌝ }
@@ -152,38 +139,6 @@ fn put_word(window: &mut [u8], base: u32, r: Registers, w: WordOption)
     }
 }
 
-// Everything lent, from the state before the call and what it left.
-fn put_served(
-    block: &mut [u8],
-    bank: &mut [u8],
-    processor: &mut [u8],
-    window: &mut [u8],
-    base: u32,
-    number: u32,
-    k: Kernel,
-    r: Registers,
-    s: Served,
-)
-    requires { ⌜ length (now block) ≡ 16384 ⌝ }
-    requires { ⌜ length (now bank) ≡ 6656 ⌝ }
-    requires { ⌜ length (now processor) ≡ 208 ⌝ }
-    requires { ⌜ pick (eqb number 8) (endedThread k) 0 < 32 ⌝ }
-    requires { ⌜ wordFits base (length (now window)) (r .r1) (s .word) ≡ true ⌝ }
-    ensures { λ _. ⌜ now (block .exit) ≡ encBlock (s .kernel) ⌝ }
-    ensures { λ _. ⌜ now (bank .exit) ≡ def.bankAfter number (now (bank .entry)) k r ⌝ }
-    ensures { λ _. ⌜ now (processor .exit) ≡ def.processorAfter number (now (processor .entry)) s ⌝ }
-    ensures { λ _. ⌜ now (window .exit) ≡ def.windowAfter base (now (window .entry)) r (s .word) ⌝ }
-{
-    let after = s.kernel;
-    let r0 = s.r0;
-    let r1 = s.r1;
-    let word = s.word;
-    block::encode(block, after);
-    put_bank(bank, number, k, r);
-    put_registers(processor, number, r0, r1);
-    put_word(window, base, r, word);
-}
-
 // The answer is the call's: 0, 16, 17 or 18.
 pub fn operate(
     block: &mut [u8],
@@ -217,12 +172,17 @@ pub fn operate(
     if refused != 0 {
         return refused;
     }
-    let s = serve(window, window_base, number, k, r, tick);
-    let after = s.kernel;
-    let found = questions::first_finding(after);
-    if found != 0 {
-        return found;
+    let n = dispatch::questions::words_read(number, r);
+    let words = words_in(window, window_base, number, r, n);
+    let o = dispatch::call::call(block, number, k, r, words, n, tick);
+    if o.found != 0 {
+        return o.found;
     }
-    put_served(block, bank, processor, window, window_base, number, k, r, s);
-    s.answer
+    let r0 = o.r0;
+    let r1 = o.r1;
+    let word = o.word;
+    put_bank(bank, number, k, r);
+    put_registers(processor, number, r0, r1);
+    put_word(window, window_base, r, word);
+    o.answer
 }

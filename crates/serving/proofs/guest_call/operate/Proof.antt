@@ -1,16 +1,20 @@
 use mathlib.Core.Path.{_≡_, ap, sym, subst, _∙_}
-use mathlib.Core.Bool.{true}
+use mathlib.Core.Bool.{Bool, true}
 use mathlib.Core.List.{List, []}
 use Prim.Native.Nat.{ℕ}
-use lib.ListN.{length}
+use lib.Dec.{eqb}
+use lib.ListN.{length, take}
 use borrow.Author.Tests.{eq-eqb, ne-eqb, not-true, not-false}
-use Rattle.laws.specs.Logic.{_and_, and-no, and-yes, true-and}
+use Rattle.laws.specs.Logic.{pick, _and_, and-no, and-yes, true-and}
 use Rattle.types.specs.declared.kernel.Kernel.{Kernel}
+use Rattle.block.specs.Block.{encBlock}
 use Rattle.svc.specs.declared.Registers.{Registers}
 use Rattle.svc.specs.declared.Served.{Served}
 use Rattle.svc.specs.Dispatch.{given, refusal, call}
 use Rattle.dispatch.specs.Word.{wordFits, word-fits, asked}
 use Rattle.dispatch.specs.Made.{call-made}
+use Rattle.dispatch.specs.declared.call.Outcome.{Outcome}
+use Rattle.dispatch.specs.Outcome.{outcome, left}
 use Rattle.lent.specs.Lent.{Lent, lent, Back, back}
 use Rattle.lent.specs.Operations.{finding}
 use Rattle.lent.specs.Guest.{registers, wordsIn, served, servedWritten}
@@ -28,6 +32,13 @@ work base number tick l = λ k. served base number tick l k .kernel
 
 abbrev result : ℕ → ℕ → ℕ → Lent → Kernel → Back
 result base number tick l = λ k. back (served base number tick l k .answer) (servedWritten base number l k (served base number tick l k))
+
+module _ (o : Outcome) (s : Served) (b e : List ℕ) (p : o ≡ outcome s) (q : e ≡ left s b) where
+  kept : (o .found ≡ 0 → ⊥) → e ≡ b
+  kept f = q ∙ ap (λ (x : Bool). pick x (encBlock (s .kernel)) b) (ne-eqb (finding (s .kernel)) 0 (λ z. f (ap (λ (x : Outcome). x .found) p ∙ z)))
+
+  written : o .found ≡ 0 → e ≡ encBlock (s .kernel)
+  written f = q ∙ ap (λ (x : Bool). pick x (encBlock (s .kernel)) b) (eq-eqb (finding (s .kernel)) 0 (sym (ap (λ (x : Outcome). x .found) p) ∙ f))
 
 returns : tie.Need-returns
 unfolding guest.dispatch
@@ -106,13 +117,18 @@ returns-6 c =
     c .before .refusal .ensures ∙ ap (λ (r : Registers). refusal (a .window-base) (length (a .window .now)) (a .number) r (c .before .before .before .before .before .before .before .decode .result)) (c .before .before .registers-for .ensures) in
     change-own _ (refused (a .window-base) (a .number) l) (work (a .window-base) (a .number) (a .tick) l) (result (a .window-base) (a .number) (a .tick) l) l (true-and _ _ (eq-eqb _ 16384 (c .before .before .before .before .before .before .before .before .before .before .before .before .before .before .if1 .left)) (true-and _ _ (eq-eqb _ 6656 (c .before .before .before .before .before .before .before .before .before .before .before .before .before .if2 .left)) (true-and _ _ (eq-eqb _ 208 (c .before .before .before .before .before .before .before .before .before .before .before .before .if3 .left)) (sym (c .before .before .before .before .before .before .before .before .before .before .window-ok .ensures) ∙ not-false _ (c .before .before .before .before .before .before .before .before .before .if4 .left))))) _ (c .before .before .before .before .before .before .before .decode .ensures) _ (c .before .before .before .before .before .block-ok .ensures) (not-false _ (c .before .before .before .before .if5 .left)) _ q (c .if6 .taken)
 
-serve-requires : tie.Need-serve-requires
-serve-requires c κs =
-    let a = (c .before .before .before .before .before .before .before .before .before .before .before .before .before .before .before .before .before .before .before .before .args) in
-    (asked (a .window-base) (length (a .window .now)) (a .number) (c .before .before .before .registers-for .result) (c .before .before .before .before .before .before .before .before .decode .result) (sym (c .before .before .refusal .ensures) ∙ c .before .if6 .left))
+words-read-requires : tie.Need-words-read-requires
+words-read-requires c κs = search needs
 
-first-finding-requires : tie.Need-first-finding-requires
-first-finding-requires c κs = search needs
+words-in-requires : tie.Need-words-in-requires
+words-in-requires c κs =
+    let a = (c .before .before .before .before .before .before .before .before .before .before .before .before .before .before .before .before .before .before .before .before .before .args) in
+    let k = c .before .before .before .before .before .before .before .before .before .decode .result in
+    let r = c .before .before .before .before .registers-for .result in
+    (c .before .words-read .ensures, asked (a .window-base) (length (a .window .now)) (a .number) r k (sym (c .before .before .before .refusal .ensures) ∙ c .before .before .if6 .left))
+
+call-requires : tie.Need-call-requires
+call-requires c κs = search needs
 
 same-length-7 : tie.Need-same-length-7
 same-length-7 c = search needs
@@ -126,34 +142,37 @@ same-length-9 c = search needs
 returns-7 : tie.Need-returns-7
 unfolding guest.dispatch
 returns-7 c =
-    let a = (c .before .before .before .before .before .before .before .before .before .before .before .before .before .before .before .before .before .before .before .before .before .before .before .before .args) in
-    let l = lent (a .block .now) (a .bank .now) (a .processor .now) (a .window .now) [] in
-    let q : c .before .before .before .before .before .before .refusal .result ≡ refused (a .window-base) (a .number) l (c .before .before .before .before .before .before .before .before .before .before .before .before .decode .result) =
-    c .before .before .before .before .before .before .refusal .ensures ∙ ap (λ (r : Registers). refusal (a .window-base) (length (a .window .now)) (a .number) r (c .before .before .before .before .before .before .before .before .before .before .before .before .decode .result)) (c .before .before .before .before .before .before .before .registers-for .ensures) in
-    let s : c .before .before .before .serve .result ≡ served (a .window-base) (a .number) (a .tick) l (c .before .before .before .before .before .before .before .before .before .before .before .before .decode .result) =
-    c .before .before .before .serve .ensures ∙ ap (λ (r : Registers). call (a .number) (c .before .before .before .before .before .before .before .before .before .before .before .before .decode .result) r (wordsIn (a .window-base) (a .window .now) (a .number) r) (a .tick)) (c .before .before .before .before .before .before .before .registers-for .ensures) in
-    change-found _ (refused (a .window-base) (a .number) l) (work (a .window-base) (a .number) (a .tick) l) (result (a .window-base) (a .number) (a .tick) l) l (true-and _ _ (eq-eqb _ 16384 (c .before .before .before .before .before .before .before .before .before .before .before .before .before .before .before .before .before .before .before .if1 .left)) (true-and _ _ (eq-eqb _ 6656 (c .before .before .before .before .before .before .before .before .before .before .before .before .before .before .before .before .before .before .if2 .left)) (true-and _ _ (eq-eqb _ 208 (c .before .before .before .before .before .before .before .before .before .before .before .before .before .before .before .before .before .if3 .left)) (sym (c .before .before .before .before .before .before .before .before .before .before .before .before .before .before .before .window-ok .ensures) ∙ not-false _ (c .before .before .before .before .before .before .before .before .before .before .before .before .before .before .if4 .left))))) _ (c .before .before .before .before .before .before .before .before .before .before .before .before .decode .ensures) _ (c .before .before .before .before .before .before .before .before .before .before .block-ok .ensures) (not-false _ (c .before .before .before .before .before .before .before .before .before .if5 .left)) _ q (c .before .before .before .before .before .if6 .left) _ (c .before .first-finding .ensures ∙ ap (λ (x : Served). finding (x .kernel)) s) (c .if7 .taken)
-
-put-served-requires : tie.Need-put-served-requires
-put-served-requires c κs =
     let a = (c .before .before .before .before .before .before .before .before .before .before .before .before .before .before .before .before .before .before .before .before .before .before .before .before .before .before .before .before .args) in
     let k = c .before .before .before .before .before .before .before .before .before .before .before .before .before .before .before .before .decode .result in
     let r = c .before .before .before .before .before .before .before .before .before .before .before .registers-for .result in
-    let ws : List ℕ = wordsIn (a .window-base) (a .window .now) (a .number) r in
-    let z = ap (λ (x : Served). finding (x .kernel)) (sym (c .before .before .before .before .before .before .before .serve .ensures)) ∙ (sym (c .before .before .before .before .before .first-finding .ensures) ∙ c .before .before .before .before .if7 .left) in (
-      c .before .before .before .before .before .before .before .before .before .before .before .before .before .before .before .before .before .before .before .before .before .before .before .if1 .left,
-      (
-        c .before .before .before .before .before .before .before .before .before .before .before .before .before .before .before .before .before .before .before .before .before .before .if2 .left,
-        (
-          c .before .before .before .before .before .before .before .before .before .before .before .before .before .before .before .before .before .before .before .before .before .if3 .left,
-          (
-            call-made (a .number) k r ws (a .tick) (nothing-full _ z),
-            subst (λ (x : Served). wordFits (a .window-base) (length (a .window .now)) (r .r1) (x .word) ≡ true) (sym (c .before .before .before .before .before .before .before .serve .ensures))
-                (word-fits (a .window-base) (length (a .window .now)) (a .number) k r ws (a .tick) ((asked (a .window-base) (length (a .window .now)) (a .number) (c .before .before .before .before .before .before .before .before .before .before .before .registers-for .result) (c .before .before .before .before .before .before .before .before .before .before .before .before .before .before .before .before .decode .result) (sym (c .before .before .before .before .before .before .before .before .before .before .refusal .ensures) ∙ c .before .before .before .before .before .before .before .before .before .if6 .left)) .1)),
-          ),
-        ),
-      ),
-    )
+    let ws : List ℕ = take (c .before .before .before .before .before .before .before .before .words-read .result) (c .before .before .before .before .before .before .words-in .result) in
+    let l = lent (a .block .now) (a .bank .now) (a .processor .now) (a .window .now) [] in
+    let q : c .before .before .before .before .before .before .before .before .before .before .refusal .result ≡ refused (a .window-base) (a .number) l k =
+    c .before .before .before .before .before .before .before .before .before .before .refusal .ensures ∙ ap (λ (x : Registers). refusal (a .window-base) (length (a .window .now)) (a .number) x k) (c .before .before .before .before .before .before .before .before .before .before .before .registers-for .ensures) in
+    let s : call (a .number) k r ws (a .tick) ≡ served (a .window-base) (a .number) (a .tick) l k =
+    ap (λ (x : List ℕ). call (a .number) k r x (a .tick)) (c .before .before .before .before .before .before .words-in .ensures) ∙ ap (λ (x : Registers). call (a .number) k x (wordsIn (a .window-base) (a .window .now) (a .number) x) (a .tick)) (c .before .before .before .before .before .before .before .before .before .before .before .registers-for .ensures) in
+    let o : c .before .before .before .before .call .result ≡ outcome (served (a .window-base) (a .number) (a .tick) l k) = c .before .before .before .before .call .ensures .0 ∙ ap outcome s in
+    rw (kept _ _ _ _ (c .before .before .before .before .call .ensures .0) (c .before .before .before .before .call .ensures .1) (c .if7 .taken)) (change-found _ (refused (a .window-base) (a .number) l) (work (a .window-base) (a .number) (a .tick) l) (result (a .window-base) (a .number) (a .tick) l) l (true-and _ _ (eq-eqb _ 16384 (c .before .before .before .before .before .before .before .before .before .before .before .before .before .before .before .before .before .before .before .before .before .before .before .if1 .left)) (true-and _ _ (eq-eqb _ 6656 (c .before .before .before .before .before .before .before .before .before .before .before .before .before .before .before .before .before .before .before .before .before .before .if2 .left)) (true-and _ _ (eq-eqb _ 208 (c .before .before .before .before .before .before .before .before .before .before .before .before .before .before .before .before .before .before .before .before .before .if3 .left)) (sym (c .before .before .before .before .before .before .before .before .before .before .before .before .before .before .before .before .before .before .before .window-ok .ensures) ∙ not-false _ (c .before .before .before .before .before .before .before .before .before .before .before .before .before .before .before .before .before .before .if4 .left))))) _ (c .before .before .before .before .before .before .before .before .before .before .before .before .before .before .before .before .decode .ensures) _ (c .before .before .before .before .before .before .before .before .before .before .before .before .before .before .block-ok .ensures) (not-false _ (c .before .before .before .before .before .before .before .before .before .before .before .before .before .if5 .left)) _ q (c .before .before .before .before .before .before .before .before .before .if6 .left) _ (ap (λ (x : Outcome). x .found) o) (c .if7 .taken))
+
+put-bank-requires : tie.Need-put-bank-requires
+put-bank-requires c κs =
+    let a = (c .before .before .before .before .before .before .before .before .before .before .before .before .before .before .before .before .before .before .before .before .before .before .before .before .before .before .before .before .before .args) in
+    let k = c .before .before .before .before .before .before .before .before .before .before .before .before .before .before .before .before .before .decode .result in
+    let r = c .before .before .before .before .before .before .before .before .before .before .before .before .registers-for .result in
+    let ws : List ℕ = take (c .before .before .before .before .before .before .before .before .before .words-read .result) (c .before .before .before .before .before .before .before .words-in .result) in
+    (c .before .before .before .before .before .before .before .before .before .before .before .before .before .before .before .before .before .before .before .before .before .before .before .if2 .left, call-made (a .number) k r ws (a .tick) (nothing-full (call (a .number) k r ws (a .tick) .kernel) (sym (ap (λ (x : Outcome). x .found) (c .before .before .before .before .before .call .ensures .0)) ∙ c .before .if7 .left)))
+
+put-registers-requires : tie.Need-put-registers-requires
+put-registers-requires c κs = c .before .before .before .before .before .before .before .before .before .before .before .before .before .before .before .before .before .before .before .before .before .before .before .before .before .before .if3 .left
+
+put-word-requires : tie.Need-put-word-requires
+put-word-requires c κs =
+    let a = (c .before .before .before .before .before .before .before .before .before .before .before .before .before .before .before .before .before .before .before .before .before .before .before .before .before .before .before .before .before .before .before .before .before .before .before .before .before .args) in
+    let k = c .before .before .before .before .before .before .before .before .before .before .before .before .before .before .before .before .before .before .before .before .before .before .before .before .before .decode .result in
+    let r = c .before .before .before .before .before .before .before .before .before .before .before .before .before .before .before .before .before .before .before .before .registers-for .result in
+    let ws : List ℕ = take (c .before .before .before .before .before .before .before .before .before .before .before .before .before .before .before .before .before .words-read .result) (c .before .before .before .before .before .before .before .before .before .before .before .before .before .before .before .words-in .result) in
+    subst (λ (x : Outcome). wordFits (a .window-base) (length (a .window .now)) (r .r1) (x .word) ≡ true) (sym (c .before .before .before .before .before .before .before .before .before .before .before .before .before .call .ensures .0))
+    (word-fits (a .window-base) (length (a .window .now)) (a .number) k r ws (a .tick) ((asked (a .window-base) (length (a .window .now)) (a .number) r k (sym (c .before .before .before .before .before .before .before .before .before .before .before .before .before .before .before .before .before .before .before .refusal .ensures) ∙ c .before .before .before .before .before .before .before .before .before .before .before .before .before .before .before .before .before .before .if6 .left)) .1))
 
 same-length-10 : tie.Need-same-length-10
 same-length-10 c = search needs
@@ -170,14 +189,18 @@ same-length-13 c = search needs
 returns-8 : tie.Need-returns-8
 unfolding guest.dispatch
 returns-8 c =
-    let a = (c .before .before .before .before .before .before .before .before .before .before .before .before .before .before .before .before .before .before .before .before .before .before .before .before .before .before .before .before .before .before .before .before .before .before .before .before .before .args) in
+    let a = (c .before .before .before .before .before .before .before .before .before .before .before .before .before .before .before .before .before .before .before .before .before .before .before .before .before .before .before .before .before .before .before .before .before .before .before .before .before .before .before .before .args) in
+    let k = c .before .before .before .before .before .before .before .before .before .before .before .before .before .before .before .before .before .before .before .before .before .before .before .before .before .before .before .before .decode .result in
+    let r = c .before .before .before .before .before .before .before .before .before .before .before .before .before .before .before .before .before .before .before .before .before .before .before .registers-for .result in
+    let ws : List ℕ = take (c .before .before .before .before .before .before .before .before .before .before .before .before .before .before .before .before .before .before .before .before .words-read .result) (c .before .before .before .before .before .before .before .before .before .before .before .before .before .before .before .before .before .before .words-in .result) in
     let l = lent (a .block .now) (a .bank .now) (a .processor .now) (a .window .now) [] in
-    let q : c .before .before .before .before .before .before .before .before .before .before .before .before .before .before .before .before .before .before .before .refusal .result ≡ refused (a .window-base) (a .number) l (c .before .before .before .before .before .before .before .before .before .before .before .before .before .before .before .before .before .before .before .before .before .before .before .before .before .decode .result) =
-    c .before .before .before .before .before .before .before .before .before .before .before .before .before .before .before .before .before .before .before .refusal .ensures ∙ ap (λ (r : Registers). refusal (a .window-base) (length (a .window .now)) (a .number) r (c .before .before .before .before .before .before .before .before .before .before .before .before .before .before .before .before .before .before .before .before .before .before .before .before .before .decode .result)) (c .before .before .before .before .before .before .before .before .before .before .before .before .before .before .before .before .before .before .before .before .registers-for .ensures) in
-    let s : c .before .before .before .before .before .before .before .before .before .before .before .before .before .before .before .before .serve .result ≡ served (a .window-base) (a .number) (a .tick) l (c .before .before .before .before .before .before .before .before .before .before .before .before .before .before .before .before .before .before .before .before .before .before .before .before .before .decode .result) =
-    c .before .before .before .before .before .before .before .before .before .before .before .before .before .before .before .before .serve .ensures ∙ ap (λ (r : Registers). call (a .number) (c .before .before .before .before .before .before .before .before .before .before .before .before .before .before .before .before .before .before .before .before .before .before .before .before .before .decode .result) r (wordsIn (a .window-base) (a .window .now) (a .number) r) (a .tick)) (c .before .before .before .before .before .before .before .before .before .before .before .before .before .before .before .before .before .before .before .before .registers-for .ensures) in
-    rw (c .before .before .before .before .before .before .before .before .put-served .ensures .0, c .before .before .before .before .before .before .before .before .put-served .ensures .1 .0, c .before .before .before .before .before .before .before .before .put-served .ensures .1 .1 .0, c .before .before .before .before .before .before .before .before .put-served .ensures .1 .1 .1, s, c .before .before .before .before .before .before .before .before .before .before .before .before .before .before .before .before .before .before .before .before .registers-for .ensures)
-    (change-0 _ (refused (a .window-base) (a .number) l) (work (a .window-base) (a .number) (a .tick) l) (result (a .window-base) (a .number) (a .tick) l) l (true-and _ _ (eq-eqb _ 16384 (c .before .before .before .before .before .before .before .before .before .before .before .before .before .before .before .before .before .before .before .before .before .before .before .before .before .before .before .before .before .before .before .before .if1 .left)) (true-and _ _ (eq-eqb _ 6656 (c .before .before .before .before .before .before .before .before .before .before .before .before .before .before .before .before .before .before .before .before .before .before .before .before .before .before .before .before .before .before .before .if2 .left)) (true-and _ _ (eq-eqb _ 208 (c .before .before .before .before .before .before .before .before .before .before .before .before .before .before .before .before .before .before .before .before .before .before .before .before .before .before .before .before .before .before .if3 .left)) (sym (c .before .before .before .before .before .before .before .before .before .before .before .before .before .before .before .before .before .before .before .before .before .before .before .before .before .before .before .before .window-ok .ensures) ∙ not-false _ (c .before .before .before .before .before .before .before .before .before .before .before .before .before .before .before .before .before .before .before .before .before .before .before .before .before .before .before .if4 .left))))) _ (c .before .before .before .before .before .before .before .before .before .before .before .before .before .before .before .before .before .before .before .before .before .before .before .before .before .decode .ensures) _ (c .before .before .before .before .before .before .before .before .before .before .before .before .before .before .before .before .before .before .before .before .before .before .before .block-ok .ensures) (not-false _ (c .before .before .before .before .before .before .before .before .before .before .before .before .before .before .before .before .before .before .before .before .before .before .if5 .left)) _ q (c .before .before .before .before .before .before .before .before .before .before .before .before .before .before .before .before .before .before .if6 .left) _ (c .before .before .before .before .before .before .before .before .before .before .before .before .before .before .first-finding .ensures ∙ ap (λ (x : Served). finding (x .kernel)) s) (c .before .before .before .before .before .before .before .before .before .before .before .before .before .if7 .left))
+    let q : c .before .before .before .before .before .before .before .before .before .before .before .before .before .before .before .before .before .before .before .before .before .before .refusal .result ≡ refused (a .window-base) (a .number) l k =
+    c .before .before .before .before .before .before .before .before .before .before .before .before .before .before .before .before .before .before .before .before .before .before .refusal .ensures ∙ ap (λ (x : Registers). refusal (a .window-base) (length (a .window .now)) (a .number) x k) (c .before .before .before .before .before .before .before .before .before .before .before .before .before .before .before .before .before .before .before .before .before .before .before .registers-for .ensures) in
+    let s : call (a .number) k r ws (a .tick) ≡ served (a .window-base) (a .number) (a .tick) l k =
+    ap (λ (x : List ℕ). call (a .number) k r x (a .tick)) (c .before .before .before .before .before .before .before .before .before .before .before .before .before .before .before .before .before .before .words-in .ensures) ∙ ap (λ (x : Registers). call (a .number) k x (wordsIn (a .window-base) (a .window .now) (a .number) x) (a .tick)) (c .before .before .before .before .before .before .before .before .before .before .before .before .before .before .before .before .before .before .before .before .before .before .before .registers-for .ensures) in
+    let o : c .before .before .before .before .before .before .before .before .before .before .before .before .before .before .before .before .call .result ≡ outcome (served (a .window-base) (a .number) (a .tick) l k) = c .before .before .before .before .before .before .before .before .before .before .before .before .before .before .before .before .call .ensures .0 ∙ ap outcome s in
+    rw (written _ _ _ _ (c .before .before .before .before .before .before .before .before .before .before .before .before .before .before .before .before .call .ensures .0) (c .before .before .before .before .before .before .before .before .before .before .before .before .before .before .before .before .call .ensures .1) (c .before .before .before .before .before .before .before .before .before .before .before .before .if7 .left), c .before .before .before .before .before .before .before .before .before .before .put-bank .ensures, c .before .before .before .before .before .before .put-registers .ensures, c .before .before .put-word .ensures, o, s, c .before .before .before .before .before .before .before .before .before .before .before .before .before .before .before .before .before .before .before .before .before .before .before .registers-for .ensures)
+    (change-0 _ (refused (a .window-base) (a .number) l) (work (a .window-base) (a .number) (a .tick) l) (result (a .window-base) (a .number) (a .tick) l) l (true-and _ _ (eq-eqb _ 16384 (c .before .before .before .before .before .before .before .before .before .before .before .before .before .before .before .before .before .before .before .before .before .before .before .before .before .before .before .before .before .before .before .before .before .before .before .if1 .left)) (true-and _ _ (eq-eqb _ 6656 (c .before .before .before .before .before .before .before .before .before .before .before .before .before .before .before .before .before .before .before .before .before .before .before .before .before .before .before .before .before .before .before .before .before .before .if2 .left)) (true-and _ _ (eq-eqb _ 208 (c .before .before .before .before .before .before .before .before .before .before .before .before .before .before .before .before .before .before .before .before .before .before .before .before .before .before .before .before .before .before .before .before .before .if3 .left)) (sym (c .before .before .before .before .before .before .before .before .before .before .before .before .before .before .before .before .before .before .before .before .before .before .before .before .before .before .before .before .before .before .before .window-ok .ensures) ∙ not-false _ (c .before .before .before .before .before .before .before .before .before .before .before .before .before .before .before .before .before .before .before .before .before .before .before .before .before .before .before .before .before .before .if4 .left))))) _ (c .before .before .before .before .before .before .before .before .before .before .before .before .before .before .before .before .before .before .before .before .before .before .before .before .before .before .before .before .decode .ensures) _ (c .before .before .before .before .before .before .before .before .before .before .before .before .before .before .before .before .before .before .before .before .before .before .before .before .before .before .block-ok .ensures) (not-false _ (c .before .before .before .before .before .before .before .before .before .before .before .before .before .before .before .before .before .before .before .before .before .before .before .before .before .if5 .left)) _ q (c .before .before .before .before .before .before .before .before .before .before .before .before .before .before .before .before .before .before .before .before .before .if6 .left) _ (ap (λ (x : Outcome). x .found) o) (c .before .before .before .before .before .before .before .before .before .before .before .before .if7 .left))
 
 pub operate-spec : {M : Type 1} → statement M
 operate-spec =
@@ -200,13 +223,16 @@ operate-spec =
     same-length-5
     same-length-6
     returns-6
-    serve-requires
-    first-finding-requires
+    words-read-requires
+    words-in-requires
+    call-requires
     same-length-7
     same-length-8
     same-length-9
     returns-7
-    put-served-requires
+    put-bank-requires
+    put-registers-requires
+    put-word-requires
     same-length-10
     same-length-11
     same-length-12
