@@ -6,10 +6,10 @@ use mathlib.Core.List.{List, [], _∷_, _++_, map}
 use Prim.Native.Nat.{ℕ, zero, suc, _+_, _-_, _≤_, _<_}
 use native.Mathlib.Numerals.{add-one}
 use native.Mathlib.Omega.{arith}
-use lib.Dec.{eqb}
+use lib.Dec.{eqb, leb}
 use lib.ListN.{length, getD, set, take, drop, length-map, length-take, List·getD-map, List·getD-eq-default, drop-of-length-le}
 use lib.Seq.{drop-cons, set-out, set-getD, getD-take}
-use borrow.Author.Tests.{eq-eqb, ne-eqb}
+use borrow.Author.Tests.{eq-eqb, ne-eqb, leb-true, leb-false}
 use Rattle.laws.specs.Logic.{pick, pick-yes, pick-no, _and_, _or_, and-false}
 use Rattle.laws.specs.Count.{at}
 use Rattle.laws.specs.Walk.{walk, walk-nil, walk-go}
@@ -25,10 +25,11 @@ use Rattle.types.specs.Object.{headOf}
 use Rattle.sound.specs.View.{ids, noSlot, slotAt, objectAt, waiterNexts, waiterThreads, waiterAddresses}
 use Rattle.sound.specs.Records.{chainOf, has?}
 use Rattle.object.specs.declared.waiters.Links.{Links}
-use Rattle.object.specs.Slots.{slotPut, withObject}
+use Rattle.object.specs.Slots.{slotPut, withSlots, withObject}
 use Rattle.object.specs.Waiters.{noWaiter, waiterAt, waiterPut, link, unlink, withHead, retain, ofOthers, dropThread, lastOf, firstOf, isArbiter, pushed, push}
 use Rattle.object.specs.declared.handles.Both.{Both}
-use Rattle.object.specs.Store.{release}
+use Rattle.object.specs.Store.{isFree, addRef, release}
+use Rattle.object.specs.Held.{hasSlot, held, heldIn}
 use Rattle.object.specs.Handles.{noEntry, placeOf, objectOf, without, takenOut, close}
 
 -- ---- slots
@@ -49,6 +50,33 @@ pub slotPut-far : (l : List Slot) (n : ℕ) (v : Slot) → length l < n → slot
 unfolding slotPut
 slotPut-far l zero v h = refl
 slotPut-far l (suc n) v h = set-out l n v (omega arith)
+
+slotPut-same : (l : List Slot) (o : ℕ) → slotPut l o (slotAt l o) ≡ l
+unfolding slotAt slotPut
+slotPut-same l zero = refl
+slotPut-same l (suc i) = set-getD l i noSlot
+
+-- one holder more, by the slot
+pub add-ref-held : (s : ObjectStore) (o : ℕ) → addRef s o ≡ withSlots s (slotPut (s .slots) o (held (slotAt (s .slots) o)))
+unfolding addRef
+add-ref-held s o = go (isFree (objectAt s o)) _
+  where
+    go : (f : Bool) (v : Slot) → pick f s (withSlots s (slotPut (s .slots) o v)) ≡ withSlots s (slotPut (s .slots) o (pick f (slotAt (s .slots) o) v))
+    go true v = sym (ap (λ (x : List Slot). withSlots s x) (slotPut-same (s .slots) o))
+    go false v = refl
+
+-- and by its index
+pub held-at : (l : List Slot) (o : ℕ) → length l ≡ 128 → set l (pick (hasSlot o) (o - 1) 0) (heldIn o (getD l (pick (hasSlot o) (o - 1) 0) noSlot)) ≡ slotPut l o (held (slotAt l o))
+unfolding slotAt slotPut
+held-at l zero n = set-getD l 0 noSlot
+held-at l (suc i) n = rw (ne-eqb (suc i) 0 (λ e. omega (arith, e))) (go (leb (suc i) 128) refl)
+  where
+    down : suc i - 1 ≡ i
+    down = omega arith
+
+    go : (b : Bool) → leb (suc i) 128 ≡ b → set l (pick b (suc i - 1) 0) (pick b (held (getD l (pick b (suc i - 1) 0) noSlot)) (getD l (pick b (suc i - 1) 0) noSlot)) ≡ set l i (held (getD l i noSlot))
+    go true e = rw down
+    go false e = set-getD l 0 noSlot ∙ sym (set-out l i _ (omega (arith, leb-false (suc i) 128 e, n)))
 
 -- ---- tests
 pub or-true : (a : Bool) → a or true ≡ true

@@ -3,5 +3,6 @@ pub mod Slots
 pub mod Waiters
 pub mod Cells
 pub mod Store
+pub mod Held
 pub mod Handles
 pub mod Kept

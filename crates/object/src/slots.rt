@@ -7,7 +7,9 @@ ghost use mathlib.Core.Path.{_≡_};
 ghost use Prim.Native.Nat.{_+_, _-_, _<_, _≤_};
 ghost use lib.ListN.{length};
 ghost use Rattle.sound.specs.View.{slotAt, noSlot};
+ghost use Rattle.laws.specs.Logic.{pick};
 ghost use Rattle.object.specs.Slots as def;
+ghost use Rattle.object.specs.Held.{hasSlot};
 
 fn no_slot() -> Slot
     ensures { λ r. ⌜ r ≡ noSlot ⌝ }
@@ -47,4 +49,27 @@ pub fn put_slot(s: ObjectStore, o: ObjectId, v: Slot) -> ObjectStore
     let mut q = s;
     q.slots[i] = v;
     q
+}
+
+pub fn has_slot(o: ObjectId) -> bool
+    ensures { λ r. ⌜ r ≡ hasSlot (o .0) ⌝ }
+{
+    if o.0 == 0 {
+        return false;
+    }
+    o.0 <= 128
+}
+
+// Where to look for the object: its slot, or the first one if it has none.
+pub fn index_of(o: ObjectId) -> usize
+    ensures { λ r. ⌜ r ≡ pick (hasSlot (o .0)) (o .0 - 1) 0 ⌝ }
+    ensures { λ r. ⌜ r < 128 ⌝ }
+{
+    if o.0 == 0 {
+        return 0;
+    }
+    if 128 < o.0 {
+        return 0;
+    }
+    (o.0 - 1) as usize
 }

@@ -13,6 +13,7 @@ ghost use Rattle.laws.specs.Logic.{pick};
 ghost use Rattle.sound.specs.View.{ids};
 ghost use Rattle.object.specs.Slots as parts;
 ghost use Rattle.object.specs.Store as def;
+ghost use Rattle.object.specs.Held as one;
 
 pub fn refcount(s: ObjectStore, o: ObjectId) -> u32
     ensures { λ r. ⌜ r ≡ def.refcount s (o .0) ⌝ }
@@ -72,26 +73,39 @@ fn one_more(x: u32) -> u32
 }
 
 // One holder more; a dead slot is not counted.
+fn held(x: Slot) -> Slot
+    ensures { λ r. ⌜ r ≡ one.held x ⌝ }
+{
+    let object = x.object;
+    let kind = types::object::kind_number(object);
+    if kind == 0 {
+        return x;
+    }
+    Slot {
+        object: object,
+        refcount: one_more(x.refcount),
+        pulsed: x.pulsed,
+    }
+}
+
+// x is what stands where the object is looked for.
+fn held_in(o: ObjectId, x: Slot) -> Slot
+    ensures { λ r. ⌜ r ≡ one.heldIn (o .0) x ⌝ }
+{
+    if slots::has_slot(o) {
+        return held(x);
+    }
+    x
+}
+
 pub fn add_ref(s: ObjectStore, o: ObjectId) -> ObjectStore
     ensures { λ r. ⌜ r ≡ def.addRef s (o .0) ⌝ }
 {
     let old = slots::slot_at(s, o);
-    let object = old.object;
-    let kind = types::object::kind_number(object);
-    if kind == 0 {
-        return s;
-    }
-    slots::put_slot(
-        s,
-        o,
-        Slot {
-            object: object,
-            refcount: one_more(old.refcount),
-            pulsed: old.pulsed,
-        },
-    )
+    slots::put_slot(s, o, held(old))
 }
 
+// In place: by value the store would be copied for each object.
 pub fn add_ref_list(s: ObjectStore, l: [ObjectId; 8], n: u32) -> ObjectStore
     ensures { λ r. ⌜ r ≡ def.addRefs s (take n (ids l)) ⌝ }
 {
@@ -102,7 +116,8 @@ pub fn add_ref_list(s: ObjectStore, l: [ObjectId; 8], n: u32) -> ObjectStore
             return q;
         }
         let o = l[i];
-        q = add_ref(q, o);
+        let j = slots::index_of(o);
+        q.slots[j] = held_in(o, q.slots[j]);
         i += 1;
     }
     q

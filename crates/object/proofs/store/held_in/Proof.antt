@@ -1,0 +1,19 @@
+use mathlib.Core.Path.{sym, _∙_}
+use borrow.Author.Needs.{needs}
+use Rattle.object.proofs.store.held_in.Statement.{statement}
+use Rattle.object.proofs.store.held_in.Tie as tie
+
+has-slot-requires : tie.Need-has-slot-requires
+has-slot-requires c κs = search needs
+
+held-requires : tie.Need-held-requires
+held-requires c κs = search needs
+
+returns : tie.Need-returns
+returns c = rw (sym (c .before .before .has-slot .ensures) ∙ c .before .if1 .taken) (c .held .ensures)
+
+returns-2 : tie.Need-returns-2
+returns-2 c = rw (sym (c .before .has-slot .ensures) ∙ c .if1 .left)
+
+pub held-in-spec : {M : Type 1} → statement M
+held-in-spec = tie.close (tie.spec has-slot-requires held-requires returns returns-2)
