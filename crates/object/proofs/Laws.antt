@@ -29,7 +29,7 @@ use Rattle.object.specs.Slots.{slotPut, withSlots, withObject}
 use Rattle.object.specs.Waiters.{noWaiter, waiterAt, waiterPut, link, unlink, withHead, retain, ofOthers, dropThread, lastOf, firstOf, isArbiter, pushed, push}
 use Rattle.object.specs.declared.handles.Both.{Both}
 use Rattle.object.specs.Store.{isFree, addRef, release}
-use Rattle.object.specs.Held.{hasSlot, held, heldIn}
+use Rattle.object.specs.Held.{hasSlot, held}
 use Rattle.object.specs.Handles.{noEntry, placeOf, objectOf, without, takenOut, close}
 
 -- ---- slots
@@ -65,16 +65,28 @@ add-ref-held s o = go (isFree (objectAt s o)) _
     go true v = sym (ap (λ (x : List Slot). withSlots s x) (slotPut-same (s .slots) o))
     go false v = refl
 
--- and by its index
-pub held-at : (l : List Slot) (o : ℕ) → length l ≡ 128 → set l (pick (hasSlot o) (o - 1) 0) (heldIn o (getD l (pick (hasSlot o) (o - 1) 0) noSlot)) ≡ slotPut l o (held (slotAt l o))
-unfolding slotAt slotPut
-held-at l zero n = set-getD l 0 noSlot
-held-at l (suc i) n = rw (ne-eqb (suc i) 0 (λ e. omega (arith, e))) (go (leb (suc i) 128) refl)
+-- a slot by the index where it is looked for
+pub slot-in : (l : List Slot) (o : ℕ) → length l ≡ 128 → pick (hasSlot o) (getD l (pick (hasSlot o) (o - 1) 0) noSlot) noSlot ≡ slotAt l o
+unfolding slotAt
+slot-in l zero n = refl
+slot-in l (suc i) n = rw (ne-eqb (suc i) 0 (λ e. omega (arith, e))) (go (leb (suc i) 128) refl)
   where
     down : suc i - 1 ≡ i
     down = omega arith
 
-    go : (b : Bool) → leb (suc i) 128 ≡ b → set l (pick b (suc i - 1) 0) (pick b (held (getD l (pick b (suc i - 1) 0) noSlot)) (getD l (pick b (suc i - 1) 0) noSlot)) ≡ set l i (held (getD l i noSlot))
+    go : (b : Bool) → leb (suc i) 128 ≡ b → pick b (getD l (pick b (suc i - 1) 0) noSlot) noSlot ≡ getD l i noSlot
+    go true e = rw down
+    go false e = sym (List·getD-eq-default l noSlot (omega (arith, leb-false (suc i) 128 e, n)))
+
+pub put-in : (f : Slot → Slot) (l : List Slot) (o : ℕ) → length l ≡ 128 → set l (pick (hasSlot o) (o - 1) 0) (pick (hasSlot o) (f (getD l (pick (hasSlot o) (o - 1) 0) noSlot)) (getD l (pick (hasSlot o) (o - 1) 0) noSlot)) ≡ slotPut l o (f (slotAt l o))
+unfolding slotAt slotPut
+put-in f l zero n = set-getD l 0 noSlot
+put-in f l (suc i) n = rw (ne-eqb (suc i) 0 (λ e. omega (arith, e))) (go (leb (suc i) 128) refl)
+  where
+    down : suc i - 1 ≡ i
+    down = omega arith
+
+    go : (b : Bool) → leb (suc i) 128 ≡ b → set l (pick b (suc i - 1) 0) (pick b (f (getD l (pick b (suc i - 1) 0) noSlot)) (getD l (pick b (suc i - 1) 0) noSlot)) ≡ set l i (f (getD l i noSlot))
     go true e = rw down
     go false e = set-getD l 0 noSlot ∙ sym (set-out l i _ (omega (arith, leb-false (suc i) 128 e, n)))
 

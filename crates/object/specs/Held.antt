@@ -12,6 +12,3 @@ hasSlot o = pick (eqb o 0) false (leb o 128)
 
 abbrev pub held : Slot → Slot
 held x = pick (isFree (x .object)) x (withRefcount x (pick (ltb (x .refcount) 4294967295) (x .refcount + 1) (x .refcount)))
-
-abbrev pub heldIn : ℕ → Slot → Slot
-heldIn o x = pick (hasSlot o) (held x) x

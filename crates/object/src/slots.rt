@@ -73,3 +73,23 @@ pub fn index_of(o: ObjectId) -> usize
     }
     (o.0 - 1) as usize
 }
+
+// What the object's slot has; x is what stands where the object is looked for.
+pub fn slot_in(o: ObjectId, x: Slot) -> Slot
+    ensures { λ r. ⌜ r ≡ pick (hasSlot (o .0)) x noSlot ⌝ }
+{
+    if has_slot(o) {
+        return x;
+    }
+    no_slot()
+}
+
+// What stands there once v is put into the object's slot.
+pub fn put_in(o: ObjectId, x: Slot, v: Slot) -> Slot
+    ensures { λ r. ⌜ r ≡ pick (hasSlot (o .0)) v x ⌝ }
+{
+    if has_slot(o) {
+        return v;
+    }
+    x
+}

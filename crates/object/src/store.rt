@@ -1,4 +1,5 @@
 // Objects come, are counted and go (ObjectStore of object.rs).
+use crate::handles;
 use crate::slots;
 use crate::waiters;
 use types::object::KObject;
@@ -38,28 +39,23 @@ pub fn content(s: ObjectStore, o: ObjectId, v: KObject) -> ObjectStore
     )
 }
 
-// A new object in the first free slot, with one holder.
+// A new object in the first free slot, with one holder. In place, so that the store is copied once.
 pub fn insert(s: ObjectStore, v: KObject) -> ObjectStore
     ensures { λ r. ⌜ r ≡ def.insert s v ⌝ }
 {
-    let free = s.free;
-    let old = slots::slot_at(s, ObjectId(free));
+    let mut q = s;
+    let o = ObjectId(q.free);
+    let i = slots::index_of(o);
+    let old = slots::slot_in(o, q.slots[i]);
     let object = old.object;
-    let next = types::object::next_of(object);
-    let mut q = slots::put_slot(
-        s,
-        ObjectId(free),
-        Slot {
-            object: v,
-            refcount: 1,
-            pulsed: old.pulsed,
-        },
-    );
-    q.free = next;
-    if free == 0 {
-        q.full = true;
-        return q;
-    }
+    let made = Slot {
+        object: v,
+        refcount: 1,
+        pulsed: old.pulsed,
+    };
+    q.slots[i] = slots::put_in(o, q.slots[i], made);
+    q.free = types::object::next_of(object);
+    q.full = handles::either(q.full, o.0 == 0);
     q
 }
 
@@ -88,16 +84,6 @@ fn held(x: Slot) -> Slot
     }
 }
 
-// x is what stands where the object is looked for.
-fn held_in(o: ObjectId, x: Slot) -> Slot
-    ensures { λ r. ⌜ r ≡ one.heldIn (o .0) x ⌝ }
-{
-    if slots::has_slot(o) {
-        return held(x);
-    }
-    x
-}
-
 pub fn add_ref(s: ObjectStore, o: ObjectId) -> ObjectStore
     ensures { λ r. ⌜ r ≡ def.addRef s (o .0) ⌝ }
 {
@@ -117,7 +103,7 @@ pub fn add_ref_list(s: ObjectStore, l: [ObjectId; 8], n: u32) -> ObjectStore
         }
         let o = l[i];
         let j = slots::index_of(o);
-        q.slots[j] = held_in(o, q.slots[j]);
+        q.slots[j] = slots::put_in(o, q.slots[j], held(q.slots[j]));
         i += 1;
     }
     q

@@ -5,7 +5,8 @@ use lib.ListN.{length, getD, take, drop, length-map, length-set}
 use Rattle.units.specs.declared.ObjectId.{ObjectId}
 use Rattle.sound.specs.View.{ids}
 use Rattle.object.specs.Store.{addRefs}
-use Rattle.object.proofs.Laws.{add-ref-held, held-at, list-at, list-end, list-over}
+use Rattle.object.specs.Held.{held}
+use Rattle.object.proofs.Laws.{add-ref-held, put-in, list-at, list-end, list-over}
 use borrow.Author.Needs.{needs}
 use Rattle.object.proofs.store.add_ref_list.Statement.{statement}
 use Rattle.object.proofs.store.add_ref_list.Tie as tie
@@ -38,17 +39,26 @@ array-copy-out-o c = search needs
 index-of-requires : tie.Need-index-of-requires Inv-loop μ-loop
 index-of-requires c κs = search needs
 
-mul-held-in : tie.Need-mul-held-in Inv-loop μ-loop
-mul-held-in c = search needs
+mul-put-in : tie.Need-mul-put-in Inv-loop μ-loop
+mul-put-in c = search needs
 
-element-copy-out-held-in : tie.Need-element-copy-out-held-in Inv-loop μ-loop
-element-copy-out-held-in c = search needs
+element-copy-out-put-in : tie.Need-element-copy-out-put-in Inv-loop μ-loop
+element-copy-out-put-in c = search needs
 
-held-in-requires : tie.Need-held-in-requires Inv-loop μ-loop
-held-in-requires c κs = search needs
+mul-held : tie.Need-mul-held Inv-loop μ-loop
+mul-held c = search needs
 
-mul-t19 : tie.Need-mul-t19 Inv-loop μ-loop
-mul-t19 c = search needs
+element-copy-out-held : tie.Need-element-copy-out-held Inv-loop μ-loop
+element-copy-out-held c = search needs
+
+held-requires : tie.Need-held-requires Inv-loop μ-loop
+held-requires c κs = search needs
+
+put-in-requires : tie.Need-put-in-requires Inv-loop μ-loop
+put-in-requires c κs = search needs
+
+mul-t24 : tie.Need-mul-t24 Inv-loop μ-loop
+mul-t24 c = search needs
 
 element-set-from-q : tie.Need-element-set-from-q Inv-loop μ-loop
 element-set-from-q c = search needs
@@ -62,11 +72,11 @@ loop-less c = search needs
 loop-again : tie.Need-loop-again Inv-loop μ-loop
 unfolding addRefs
 loop-again c =
-    let l = c .before .before .before .before .before .before .loop in
-    let s = c .before .before .before .before .before .before .before in
-    let e = list-at (s .args .t2) (s .args .n) (l .i) (c .before .before .before .before .if1 .left) (omega arith) in
+    let l = c .before .before .before .before .before .before .before .before .loop in
+    let s = c .before .before .before .before .before .before .before .before .before in
+    let e = list-at (s .args .t2) (s .args .n) (l .i) (c .before .before .before .before .before .before .if1 .left) (omega arith) in
     let o : ObjectId = getD (s .args .t2) (l .i) (record { 0 = 0 }) in
-    (search needs, (search needs, (length-set (l .q .slots) _ _ ∙ l .inv .1 .1 .0, rw (c .held-in .ensures, c .before .before .index-of .ensures .0, held-at (l .q .slots) (o .0) (l .inv .1 .1 .0), sym (add-ref-held (l .q) (o .0))) (rw e at (l .inv .1 .1 .1)))))
+    (search needs, (search needs, (length-set (l .q .slots) _ _ ∙ l .inv .1 .1 .0, rw (c .put-in .ensures, c .before .held .ensures, c .before .before .before .before .index-of .ensures .0, put-in held (l .q .slots) (o .0) (l .inv .1 .1 .0), sym (add-ref-held (l .q) (o .0))) (rw e at (l .inv .1 .1 .1)))))
 
 returns-2 : tie.Need-returns-2 Inv-loop μ-loop
 unfolding addRefs
@@ -87,10 +97,13 @@ add-ref-list-spec =
     mul-o
     array-copy-out-o
     index-of-requires
-    mul-held-in
-    element-copy-out-held-in
-    held-in-requires
-    mul-t19
+    mul-put-in
+    element-copy-out-put-in
+    mul-held
+    element-copy-out-held
+    held-requires
+    put-in-requires
+    mul-t24
     element-set-from-q
     add-i
     loop-less
