@@ -27,16 +27,16 @@ pub fn refcount(s: ObjectStore, o: ObjectId) -> u32
 pub fn content(s: ObjectStore, o: ObjectId, v: KObject) -> ObjectStore
     ensures { λ r. ⌜ r ≡ parts.content s (o .0) v ⌝ }
 {
-    let old = slots::slot_at(s, o);
-    slots::put_slot(
-        s,
-        o,
-        Slot {
-            object: v,
-            refcount: old.refcount,
-            pulsed: old.pulsed,
-        },
-    )
+    let mut q = s;
+    let i = slots::index_of(o);
+    let old = q.slots[i];
+    let changed = Slot {
+        object: v,
+        refcount: old.refcount,
+        pulsed: old.pulsed,
+    };
+    q.slots[i] = slots::put_in(o, old, changed);
+    q
 }
 
 // A new object in the first free slot, with one holder. In place, so that the store is copied once.
@@ -87,8 +87,10 @@ fn held(x: Slot) -> Slot
 pub fn add_ref(s: ObjectStore, o: ObjectId) -> ObjectStore
     ensures { λ r. ⌜ r ≡ def.addRef s (o .0) ⌝ }
 {
-    let old = slots::slot_at(s, o);
-    slots::put_slot(s, o, held(old))
+    let mut q = s;
+    let i = slots::index_of(o);
+    q.slots[i] = slots::put_in(o, q.slots[i], held(q.slots[i]));
+    q
 }
 
 // In place: by value the store would be copied for each object.

@@ -1,20 +1,56 @@
-use mathlib.Core.Path.{sym}
-use Rattle.object.proofs.Laws.{add-ref-held}
+use mathlib.Core.Path.{_≡_, sym, _∙_}
+use lib.ListN.{length, length-map}
+use Rattle.object.specs.Held.{held}
+use Rattle.object.proofs.Laws.{add-ref-held, put-in}
 use borrow.Author.Needs.{needs}
 use Rattle.object.proofs.store.add_ref.Statement.{statement}
 use Rattle.object.proofs.store.add_ref.Tie as tie
 
-slot-at-requires : tie.Need-slot-at-requires
-slot-at-requires c κs = search needs
+index-of-requires : tie.Need-index-of-requires
+index-of-requires c κs = search needs
+
+mul-put-in : tie.Need-mul-put-in
+mul-put-in c = search needs
+
+element-copy-out-put-in : tie.Need-element-copy-out-put-in
+element-copy-out-put-in c = search needs
+
+mul-held : tie.Need-mul-held
+mul-held c = search needs
+
+element-copy-out-held : tie.Need-element-copy-out-held
+element-copy-out-held c = search needs
 
 held-requires : tie.Need-held-requires
 held-requires c κs = search needs
 
-put-slot-requires : tie.Need-put-slot-requires
-put-slot-requires c κs = search needs
+put-in-requires : tie.Need-put-in-requires
+put-in-requires c κs = search needs
+
+mul-t15 : tie.Need-mul-t15
+mul-t15 c = search needs
+
+element-set-from-q : tie.Need-element-set-from-q
+element-set-from-q c = search needs
 
 returns : tie.Need-returns
-returns c = rw (c .put-slot .ensures, c .before .held .ensures, c .before .before .slot-at .ensures) (sym (add-ref-held _ _))
+returns c =
+    let b = c .before .before .before .before .before in
+    let s = b .args .s in
+    let n : length (s .slots) ≡ 128 = sym (length-map (s .slots) _) ∙ b .good .0 .1 .1 .0 .1 .0 .1 in
+    rw (c .put-in .ensures, c .before .held .ensures, c .before .before .before .before .index-of .ensures .0, put-in held (s .slots) (b .args .o .0) n) (sym (add-ref-held s (b .args .o .0)))
 
 pub add-ref-spec : {M : Type 1} → statement M
-add-ref-spec = tie.close (tie.spec slot-at-requires held-requires put-slot-requires returns)
+add-ref-spec =
+    tie.close
+    (tie.spec
+    index-of-requires
+    mul-put-in
+    element-copy-out-put-in
+    mul-held
+    element-copy-out-held
+    held-requires
+    put-in-requires
+    mul-t15
+    element-set-from-q
+    returns)
