@@ -4,3 +4,4 @@ pub mod Sizes
 pub mod Enums
 pub mod Fits
 pub mod Contexts
+pub mod Kept

@@ -1,5 +1,6 @@
 // The state in a block of 16,384 bytes, as docs/STATE.md lays it out.
 pub mod context;
+pub mod parts;
 pub mod record;
 pub mod slot;
 pub mod table;
