@@ -1,6 +1,13 @@
 // The operation that makes a pass.
+use block::Head;
+use block::parts;
+use codec::Four;
 use lent::questions;
+use scheduler::choose;
+use types::object::ObjectStore;
 use types::thread::ThreadOption;
+use units::Handle;
+use wait::tries;
 ghost use mathlib.Core.Path.{_≡_};
 ghost use mathlib.Core.List.{[]};
 ghost use Prim.Native.Nat.{_+_, _*_, _<_, _≤_};
@@ -9,6 +16,7 @@ ghost use Rattle.laws.specs.Logic.{pick};
 ghost use Rattle.codec.specs.Bytes.{bytes};
 ghost use Rattle.lent.specs.Lent.{lent, back};
 ghost use Rattle.lent.specs.Operations as def;
+ghost use Rattle.running.specs.Pass.{headAfter, foundIn};
 
 fn save_at(bank: &mut [u8], t: u32, context: &[u8])
     requires { ⌜ length (now bank) ≡ 6656 ⌝ }
@@ -85,6 +93,44 @@ fn put_passed(
     codec::put32(answer, 0, flag(switched));
 }
 
+// The head h after the pass, with what the objects o and the choice of who runs change of it.
+fn head_after(h: Head, o: ObjectStore, next: ThreadOption, relief: bool) -> Head
+    ensures { λ r. ⌜ r ≡ headAfter h o next relief ⌝ }
+{
+    let p = h.a;
+    let q = h.b;
+    let r = h.c;
+    let blocked = choose::is_none(next);
+    let process = o.process_object;
+    Head {
+        a: Four(
+            p.0,
+            p.1,
+            types::thread::thread_flag(next),
+            types::thread::thread_value(next),
+        ),
+        b: Four(q.0, q.1, blocked as u32, relief as u32),
+        c: Four(o.free, o.free_waiter, r.2, r.3),
+        d: Four(process.0, 0, 0, 0),
+    }
+}
+
+// Questions 7 and 8 after a pass: it changes no handle.
+fn found_in(o: ObjectStore, next: Handle) -> u32
+    ensures { λ r. ⌜ r ≡ foundIn o (next .0) ⌝ }
+{
+    if o.full {
+        return 7;
+    }
+    if o.overflow {
+        return 8;
+    }
+    if questions::out_of_handles(next) {
+        return 8;
+    }
+    0
+}
+
 // Timers fire, waits that are over end, and the most urgent thread that can run gets the core.
 pub fn operate(
     block: &mut [u8],
@@ -107,19 +153,28 @@ pub fn operate(
     if answer.len() != 4 {
         return 1;
     }
-    let k = block::decode(block);
     if !questions::block_ok(block) {
         return 2;
     }
-    let p = scheduler::schedule::schedule(k, tick);
-    let after = p.kernel;
-    let found = questions::first_finding(after);
+    let head = block::get_head(block);
+    let p = head.a;
+    let q = head.b;
+    let r = head.c;
+    let current = types::thread::thread_option(p.2, p.3);
+    let w = tries::try_waits(block, tick);
+    let objects = w.objects;
+    let tried = w.threads;
+    let t = choose::choose(tried, current, q.3 == 1, tick);
+    let found = found_in(objects, Handle(r.3));
     if found != 0 {
         return found;
     }
-    block::encode(block, after);
-    let saved = p.saved;
-    let restored = p.restored;
-    put_passed(bank, processor, answer, saved, restored, p.switched);
+    let next = t.current;
+    let threads = t.threads;
+    let after = head_after(head, objects, next, t.relief);
+    parts::put_parts(block, after, threads, objects);
+    let saved = t.saved;
+    let restored = t.restored;
+    put_passed(bank, processor, answer, saved, restored, t.switched);
     0
 }

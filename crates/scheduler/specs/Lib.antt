@@ -1,4 +1,5 @@
 -- The switch and a quiet release as they are computed.
 pub mod Switch
+pub mod Turn
 pub mod Place
 pub mod Alone

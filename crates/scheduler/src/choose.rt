@@ -1,8 +1,5 @@
 // The choice after the tries: first pick, starving, relief, stand-in, switch.
 use crate::run;
-use pass::Passed;
-use types::kernel::Kernel;
-use types::object::ObjectStore;
 use types::thread::Thread;
 use types::thread::ThreadOption;
 ghost use mathlib.Core.Path.{_≡_};
@@ -12,6 +9,7 @@ ghost use Rattle.sound.specs.View.{threadAt};
 ghost use Rattle.pass.specs.Pick.{orElse};
 ghost use Rattle.pass.specs.Schedule as def;
 ghost use Rattle.scheduler.specs.Switch as computed;
+ghost use Rattle.scheduler.specs.Turn.{Chooses};
 
 pub fn priority_at(ts: [Thread; 32], t: u32) -> u32
     ensures { λ r. ⌜ r ≡ threadAt ts t .priority ⌝ }
@@ -71,7 +69,7 @@ fn flipped(starve: bool, relief: bool) -> bool
     relief
 }
 
-fn is_none(t: ThreadOption) -> bool
+pub fn is_none(t: ThreadOption) -> bool
     ensures { λ r. ⌜ r ≡ def.isNone t ⌝ }
 {
     match t {
@@ -119,11 +117,21 @@ fn switches(same: bool, c: ThreadOption, n: ThreadOption) -> bool
     !is_none(n)
 }
 
-// The state k with the objects s and the threads ts after the tries. In place: threads that are handed on would be copied.
-pub fn choose(k: Kernel, s: ObjectStore, ts: [Thread; 32], tick: u64) -> Passed
-    ensures { λ r. ⌜ r ≡ def.choose k (record { objects = s; threads = ts }) tick ⌝ }
+// What a pass chooses: the threads after it, who runs, the relief, whose context is saved, whose is restored, and
+// whether it switched.
+pub struct Turned {
+    pub threads: [Thread; 32],
+    pub current: ThreadOption,
+    pub relief: bool,
+    pub saved: ThreadOption,
+    pub restored: ThreadOption,
+    pub switched: bool,
+}
+
+// From the threads ts after the tries. In place: threads that are handed on would be copied.
+pub fn choose(ts: [Thread; 32], current: ThreadOption, relief: bool, tick: u64) -> Turned
+    ensures { λ r. ⌜ Chooses ts current relief tick r ⌝ }
 {
-    let current = k.current_thread;
     let mut l = ts;
     let c = run::place_of(current);
     l[c] = run::mark_waited(current, l[c]);
@@ -131,7 +139,7 @@ pub fn choose(k: Kernel, s: ObjectStore, ts: [Thread; 32], tick: u64) -> Passed
     let f = run::place_of(first);
     l[f] = run::begin_run(first, l[f], tick);
     let starve = run::starving(first, l[f], tick);
-    let next = chosen(l, first, starve, k.relief);
+    let next = chosen(l, first, starve, relief);
     let n = run::place_of(next);
     l[n] = run::begin_run(next, l[n], tick);
     let same = stays(current, next);
@@ -139,25 +147,12 @@ pub fn choose(k: Kernel, s: ObjectStore, ts: [Thread; 32], tick: u64) -> Passed
     l[n] = run::take_core(next, l[n]);
     let saved = unless(same, current);
     let restored = unless(same, next);
-    let handles = k.handles;
-    let blocked = is_none(next);
     let turned = switches(same, current, next);
-    let relief = flipped(starve, k.relief);
-    Passed {
-        kernel: Kernel {
-            status_word: k.status_word,
-            objects: s,
-            handles: handles,
-            threads: l,
-            thread_count: k.thread_count,
-            current_thread: next,
-            next_tls_slot: k.next_tls_slot,
-            next_guest_id: k.next_guest_id,
-            all_blocked: blocked,
-            relief: relief,
-            full: k.full,
-            overflow: k.overflow,
-        },
+    let turns = flipped(starve, relief);
+    Turned {
+        threads: l,
+        current: next,
+        relief: turns,
         saved: saved,
         restored: restored,
         switched: turned,

@@ -2,4 +2,3 @@
 pub mod choose;
 pub mod quiet;
 pub mod run;
-pub mod schedule;

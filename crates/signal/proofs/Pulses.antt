@@ -1,4 +1,4 @@
--- One turn of `clear_pulses`. Assumes nothing.
+-- One turn of the loop that ends the pulses. Assumes nothing.
 use mathlib.Core.Path.{_≡_, ap, sym, _∙_}
 use mathlib.Core.Bool.{false}
 use Prim.Native.Nat.{ℕ, _+_, _<_}

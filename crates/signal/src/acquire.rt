@@ -18,6 +18,7 @@ ghost use Rattle.sound.specs.View.{ids};
 ghost use Rattle.object.specs.Slots.{withObject};
 ghost use Rattle.pass.specs.Signal as def;
 ghost use Rattle.signal.specs.Looks.{threadNamed, signaledFor};
+ghost use Rattle.signal.specs.Takes as takes;
 
 fn positive(n: u32) -> bool
     ensures { λ r. ⌜ r ≡ def.positive n ⌝ }
@@ -178,6 +179,48 @@ fn acquire_over(x: KObject) -> bool
         KObject::Mutex(m) => m.lock_count == 4294967295,
         KObject::Semaphore(s) => s.count == 2147483648,
         KObject::Timer(_t) => false,
+        KObject::AddressArbiter(_a) => false,
+        KObject::Process => false,
+        KObject::ResourceLimit => false,
+    }
+}
+
+// Only a one-shot clears itself.
+fn clears(r: ResetType) -> bool
+    ensures { λ v. ⌜ v ≡ takes.clears r ⌝ }
+{
+    match r {
+        ResetType::OneShot => true,
+        ResetType::Sticky => false,
+        ResetType::Pulse => false,
+    }
+}
+
+fn clears_event(e: Event) -> bool
+    ensures { λ r. ⌜ r ≡ takes.clears (e .«reset_type») ⌝ }
+{
+    let kind = e.reset_type;
+    clears(kind)
+}
+
+fn clears_timer(t: Timer) -> bool
+    ensures { λ r. ⌜ r ≡ takes.clears (t .«reset_type») ⌝ }
+{
+    let kind = t.reset_type;
+    clears(kind)
+}
+
+// Whether an acquire changes the object.
+pub fn acquire_changes(x: KObject) -> bool
+    ensures { λ r. ⌜ r ≡ takes.changes x ⌝ }
+{
+    match x {
+        KObject::Free(_n) => false,
+        KObject::Thread(_u) => false,
+        KObject::Event(e) => clears_event(e),
+        KObject::Mutex(_m) => true,
+        KObject::Semaphore(_s) => true,
+        KObject::Timer(t) => clears_timer(t),
         KObject::AddressArbiter(_a) => false,
         KObject::Process => false,
         KObject::ResourceLimit => false,

@@ -1,6 +1,5 @@
 // The end of all pulses, after the pass has tried every thread.
 use types::object::KObject;
-use types::object::ObjectStore;
 use types::object::Slot;
 use types::sync::Event;
 use types::sync::Timer;
@@ -48,7 +47,7 @@ fn quieted(x: KObject) -> KObject
     }
 }
 
-fn unpulsed_slot(s: Slot) -> Slot
+pub fn unpulsed_slot(s: Slot) -> Slot
     ensures { λ r. ⌜ r ≡ def.unpulsedSlot s ⌝ }
 {
     if !s.pulsed {
@@ -61,22 +60,6 @@ fn unpulsed_slot(s: Slot) -> Slot
         refcount: s.refcount,
         pulsed: false,
     }
-}
-
-// In place: few slots change.
-pub fn clear_pulses(s: ObjectStore) -> ObjectStore
-    ensures { λ r. ⌜ r ≡ def.clearPulses s ⌝ }
-{
-    let mut q = s;
-    let mut i: usize = 0;
-    while i < 128 {
-        let old = q.slots[i];
-        if old.pulsed {
-            q.slots[i] = unpulsed_slot(old);
-        }
-        i += 1;
-    }
-    q
 }
 
 // Whether any pulse waits for a pass, on a dead slot too.

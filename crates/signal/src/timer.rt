@@ -115,7 +115,7 @@ fn fired_as(s: Slot, x: KObject, tick: u64) -> Slot
     }
 }
 
-fn fired_slot(tick: u64, s: Slot) -> Slot
+pub fn fired_slot(tick: u64, s: Slot) -> Slot
     ensures { λ r. ⌜ r ≡ def.firedSlot tick s ⌝ }
 {
     let x = s.object;
@@ -174,7 +174,7 @@ fn slot_over(s: Slot, tick: u64) -> bool
     over_of(x, tick)
 }
 
-fn over_after(before: bool, s: Slot, tick: u64) -> bool
+pub fn over_after(before: bool, s: Slot, tick: u64) -> bool
     ensures { λ r. ⌜ r ≡ (before or def.overOf (s .object) tick) ⌝ }
 {
     if before {
@@ -183,7 +183,7 @@ fn over_after(before: bool, s: Slot, tick: u64) -> bool
     slot_over(s, tick)
 }
 
-fn slot_due(s: Slot, tick: u64) -> bool
+pub fn slot_due(s: Slot, tick: u64) -> bool
     ensures { λ r. ⌜ r ≡ def.dueBy (dueOf (s .object)) tick ⌝ }
 {
     let x = s.object;

@@ -1,34 +1,38 @@
 -- One turn of each loop of a try. Assumes nothing.
 use mathlib.Core.Path.{_≡_, refl, ap, sym, _∙_}
-use mathlib.Core.Bool.{Bool, true, false, not}
+use mathlib.Core.Bool.{Bool, true, false, not, true≢false}
 use mathlib.Core.List.{List, [], _∷_}
 use Prim.Native.Nat.{ℕ, zero, suc, _+_, _-_, _≤_, _<_}
 use native.Mathlib.Omega.{arith}
-use borrow.Author.Tests.{ltb-true, ltb-false}
-use lib.Dec.{ltb}
+use borrow.Author.Tests.{ltb-true, ltb-false, leb-true, le-ltb}
+use lib.Dec.{ltb, leb}
 use lib.Seq.{set-getD}
 use lib.ListN.{length, getD, set, take, drop, length-map, length-set}
-use Rattle.laws.specs.Logic.{pick}
+use Rattle.laws.specs.Logic.{pick, _and_, _or_, and-true, and-yes, and-no}
 use Rattle.units.specs.declared.ObjectId.{ObjectId}
 use Rattle.types.specs.declared.thread.Thread.{Thread}
 use Rattle.types.specs.declared.object.Slot.{Slot}
 use Rattle.types.specs.declared.object.ObjectStore.{ObjectStore}
+use Rattle.types.specs.declared.kernel.Kernel.{Kernel}
 use Rattle.sound.specs.View.{ids, noSlot, noThread, slotAt, threadAt}
-use Rattle.object.specs.Slots.{withSlots}
+use Rattle.object.specs.Slots.{withSlots, withObject}
 use Rattle.object.specs.Store.{release, releases}
-use Rattle.object.proofs.Laws.{list-at, list-end, kept-in}
+use Rattle.object.proofs.Laws.{list-at, list-end, kept-in, or-end}
 use Rattle.thread.specs.Marks.{slotIndex}
 use Rattle.pass.specs.declared.IndexOption.{IndexOption}
 use Rattle.pass.specs.declared.IndexOption.the-variants.{NoIndex, SomeIndex}
 use Rattle.pass.specs.declared.Fate.{Fate}
 use Rattle.pass.specs.declared.Fate.the-variants.{Stays, Given, TimedOut, Slept}
 use Rattle.pass.specs.declared.Waits.{Waits}
-use Rattle.pass.specs.Signal.{isSignaled, acquires, withOverflow}
-use Rattle.pass.specs.Timers.{dueBy}
-use Rattle.pass.specs.Waits.{waitedObjects, fateAs, fate, tryAs, tryWait}
+use Rattle.pass.specs.Signal.{isSignaled, acquired, acquireOver, acquire, acquires, clearPulses, withOverflow}
+use Rattle.pass.specs.Timers.{dueBy, firedSlot, fireTimers}
+use Rattle.pass.specs.Waits.{waitedObjects, fateAs, fate, tryAs, tryWait, tryWaits}
+use Rattle.pass.specs.Schedule.{tried}
+use Rattle.signal.specs.Takes.{changes, acquired-same, fits-same}
 use Rattle.wait.specs.Looks.{asWanted, firstWhere, endFor, orIndex, looked, namedIndex, look-is, indexFor, index-is}
-use Rattle.wait.specs.Change.{takenSlot, takenOver, unlinks, leftSlot, leftFree}
-use Rattle.wait.specs.Tries.{takes, leaves, after, fromAny, toAny, takenFrom, takenTo, leftTo}
+use Rattle.wait.specs.Change.{isSlot, takenSlot, takenOver, held, countsDown, lastHeld, unlinks, leftSlot, leftFree}
+use Rattle.wait.specs.Change as change
+use Rattle.wait.specs.Tries.{takes, leaves, after, isOver, fromAny, toAny, takenFrom, takenTo, leftTo}
 use Rattle.wait.proofs.Steps.{noId, ids-far}
 use Rattle.signal.proofs.Acquires.{acquire-none}
 use Rattle.wait.proofs.Places.{withFree, acquire-at, release-at, release-length}
@@ -94,6 +98,30 @@ module _ (ts : List Thread) (slots : List Slot) (w : ℕ) (want : Bool) (l : Lis
   look-done j end NoIndex whole h e inv = rw (list-end l n j (omega arith)) at inv
   look-done j end (SomeIndex i) whole h e inv = inv
 
+-- ---- a slot that stays as it is, and one that a holder leaves
+taken-same : (k : ℕ) (x : Slot) (w : ℕ) → change.takes k x ≡ false → takenSlot k x w ≡ x
+unfolding _and_
+taken-same k x w = go (isSlot k)
+  where
+    go : (b : Bool) → b and changes (x .object) ≡ false → pick b (withObject x (acquired (x .object) w)) x ≡ x
+    go true z = ap (λ o. withObject x o) (acquired-same (x .object) w z)
+    go false z = refl
+
+over-same : (before : Bool) (k : ℕ) (x : Slot) → change.takes k x ≡ false → takenOver before k x ≡ before
+unfolding _and_
+over-same before k x = go (isSlot k)
+  where
+    go : (b : Bool) → b and changes (x .object) ≡ false → pick b (before or acquireOver (x .object)) before ≡ before
+    go true z = ap (λ o. before or o) (fits-same (x .object) z) ∙ or-end before
+    go false z = refl
+
+counted : (k : ℕ) (x : Slot) (free : ℕ) → countsDown k x ≡ true → (unlinks k x ≡ false) × (free ≡ leftFree k x free)
+counted k x free z =
+    let a = and-true (held k x) (leb 2 (x .refcount)) z in
+    let n : ltb (x .refcount) 2 ≡ false = le-ltb (x .refcount) 2 (leb-true 2 (x .refcount) (a .1)) in
+    let last : lastHeld k x ≡ false = and-yes (held k x) (ltb (x .refcount) 2) (a .0) ∙ n in
+    (and-no (lastHeld k x) _ last, rw last)
+
 -- ---- what is taken
 module _ (s : ObjectStore) (l : List ObjectId) (to a p : ℕ) (ns : length (s .slots) ≡ 128) (nl : length l ≡ 8) (k : to ≤ 8) (h : a < to) (e : p ≡ slotIndex (getD l a noId .0)) where
   abbrev q : ℕ
@@ -102,10 +130,18 @@ module _ (s : ObjectStore) (l : List ObjectId) (to a p : ℕ) (ns : length (s .s
   abbrev x : Slot
   x = getD (s .slots) p noSlot
 
-  pub take-turn : (w : ℕ) (over : Bool) (v : Slot) (whole : ObjectStore) → over ≡ takenOver (s .overflow) q x → v ≡ takenSlot q x w
-      → acquires s (drop a (take to (ids l))) w ≡ whole → acquires (withOverflow (withSlots s (set (s .slots) p v)) over) (drop (a + 1) (take to (ids l))) w ≡ whole
+  pub take-turn : (w : ℕ) (s' whole : ObjectStore) → s' ≡ acquire s q w → acquires s (drop a (take to (ids l))) w ≡ whole
+      → (length (s' .slots) ≡ 128) × (acquires s' (drop (a + 1) (take to (ids l))) w ≡ whole)
   unfolding acquires
-  take-turn w over v whole eo ev inv = rw (eo, ev, ← acquire-at s q w p ns e) (rw (list-at l to a h (omega arith)) at inv)
+  take-turn w s' whole es inv = (rw (es, acquire-at s q w p ns e) (length-set (s .slots) p (takenSlot q x w) ∙ ns), rw es (rw (list-at l to a h (omega arith)) at inv))
+
+  pub take-in : (w : ℕ) (over : Bool) (v : Slot) → over ≡ takenOver (s .overflow) q x → v ≡ takenSlot q x w → withOverflow (withSlots s (set (s .slots) p v)) over ≡ acquire s q w
+  take-in w over v eo ev = rw (eo, ev) (sym (acquire-at s q w p ns e))
+
+  -- nothing is taken
+  pub take-none : (w : ℕ) → change.takes q x ≡ false → s ≡ acquire s q w
+  take-none w z =
+      ap (λ y. withSlots s y) (sym (set-getD (s .slots) p noSlot)) ∙ take-in w (s .overflow) x (sym (over-same (s .overflow) q x z)) (sym (taken-same q x w z))
 
   -- ---- what is let go, with or without records that are unlinked
   pub left-turn : (s' whole : ObjectStore) → s' ≡ release s q → releases s (drop a (take to (ids l))) ≡ whole
@@ -115,6 +151,10 @@ module _ (s : ObjectStore) (l : List ObjectId) (to a p : ℕ) (ns : length (s .s
 
   pub left-in : (v : Slot) (free : ℕ) → unlinks q x ≡ false → v ≡ leftSlot q x (s .free) → free ≡ leftFree q x (s .free) → withFree s (set (s .slots) p v) free ≡ release s q
   left-in v free u ev ef = rw (ev, ef) (sym (release-at s q p ns e u))
+
+  -- a holder goes that is not the last
+  pub count-in : (v : Slot) → countsDown q x ≡ true → v ≡ leftSlot q x (s .free) → withSlots s (set (s .slots) p v) ≡ release s q
+  count-in v z ev = let c = counted q x (s .free) z in left-in v (s .free) (c .0) ev (c .1)
 
 pub to-least : (f : Fate) (all : Bool) (n : ℕ) → n ≤ 8 → takenTo f all n ≤ 8
 to-least Stays all n h = omega arith
@@ -132,6 +172,13 @@ left-least Stays n h = omega arith
 left-least (Given i) n h = h
 left-least TimedOut n h = h
 left-least Slept n h = h
+
+-- a wait that is not over leaves its thread as it is
+pub stays-same : (f : Fate) (t : Thread) → isOver f ≡ false → t ≡ after f t
+stays-same Stays t e = refl
+stays-same (Given i) t e = absurd (true≢false e)
+stays-same TimedOut t e = absurd (true≢false e)
+stays-same Slept t e = absurd (true≢false e)
 
 -- ---- a try as a whole
 module _ (s : ObjectStore) (t : Thread) (n w : ℕ) (nl : length (t .«wait_objects») ≡ 8) (e : take n (ids (t .«wait_objects»)) ≡ waitedObjects t) where
@@ -203,3 +250,18 @@ module _ (tick : ℕ) (s : ObjectStore) (ts : List Thread) (i n : ℕ) (nl : len
       let took : s1 ≡ acquires s (takes f t) i = (rw (list-end list to a ha) at ia) ∙ rw (et, er) (takes-is s t n i nl e f) in
       let gone : s2 ≡ releases s1 (leaves f t) = (rw (list-end list left b hb) at ib) ∙ rw el (ap (λ os. releases s1 os) (leaves-is s t n i nl e f)) in
       ap (λ g. tryAs g (record { objects = s; threads = ts }) i) (fate-is found f ef eg) ∙ try-parts f s ts i ∙ rw (gone, took, ev)
+
+-- ---- the pass before the choice
+pub fired-length : (s : ObjectStore) (tick : ℕ) → length (s .slots) ≡ 128 → length (fireTimers s tick .slots) ≡ 128
+unfolding fireTimers
+fired-length s tick n = length-map (s .slots) (firedSlot tick) ∙ n
+
+pub tried-is : (k : Kernel) (tick : ℕ) (s₀ s₁ s₂ s₃ : ObjectStore) (ts₀ ts : List Thread) → s₀ ≡ k .objects → ts₀ ≡ k .threads → s₁ ≡ fireTimers s₀ tick
+    → _≡_ {A = Waits} (record { objects = s₂; threads = ts }) (tryWaits tick 32 0 (record { objects = s₁; threads = ts₀ })) → s₃ ≡ clearPulses s₂
+    → _≡_ {A = Waits} (record { objects = s₃; threads = ts }) (tried k tick)
+tried-is k tick s₀ s₁ s₂ s₃ ts₀ ts e₀ et e₁ e₂ e₃ =
+    let end : Waits → Waits = λ w. record { objects = clearPulses (w .objects); threads = w .threads } in
+    ap (λ z. with z) e₃ ∙ ap end e₂ ∙ (λ i. end (tryWaits tick 32 0 (record { objects = (e₁ ∙ ap (λ z. fireTimers z tick) e₀) i; threads = et i })))
+  where
+    with : ObjectStore → Waits
+    with z = record { objects = z; threads = ts }

@@ -8,6 +8,7 @@ use Rattle.types.specs.declared.object.Slot.{Slot}
 use Rattle.types.specs.Object.{kindNumber, headOf}
 use Rattle.object.specs.Slots.{withObject, withRefcount}
 use Rattle.pass.specs.Signal.{acquired, acquireOver}
+use Rattle.signal.specs.Takes.{changes}
 
 abbrev pub isSlot : ℕ → Bool
 isSlot k = ltb 0 k and ltb k 129
@@ -16,12 +17,19 @@ isSlot k = ltb 0 k and ltb k 129
 abbrev pub takenSlot : ℕ → Slot → ℕ → Slot
 takenSlot k x w = pick (isSlot k) (withObject x (acquired (x .object) w)) x
 
+-- whether anything changes
+abbrev pub takes : ℕ → Slot → Bool
+takes k x = isSlot k and changes (x .object)
+
 abbrev pub takenOver : Bool → ℕ → Slot → Bool
 takenOver before k x = pick (isSlot k) (before or acquireOver (x .object)) before
 
 -- ---- `release`, where no record is to be unlinked
 abbrev pub held : ℕ → Slot → Bool
 held k x = isSlot k and ltb 0 (kindNumber (x .object))
+
+abbrev pub countsDown : ℕ → Slot → Bool
+countsDown k x = held k x and leb 2 (x .refcount)
 
 abbrev pub lastHeld : ℕ → Slot → Bool
 lastHeld k x = held k x and ltb (x .refcount) 2

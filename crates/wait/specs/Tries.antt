@@ -1,6 +1,6 @@
 -- A try by its parts: what the thread takes, what it lets go of, and what becomes of it.
 use mathlib.Core.Path.{_≡_, refl}
-use mathlib.Core.Bool.{Bool}
+use mathlib.Core.Bool.{Bool, true, false}
 use mathlib.Core.List.{List, []}
 use Prim.Native.Nat.{ℕ, _+_}
 use lib.Dec.{ltb}
@@ -38,6 +38,13 @@ after Stays t = t
 after (Given i) t = awakened t (Signaled i)
 after TimedOut t = awakened t result.TimedOut
 after Slept t = awakened t (t .«wait_result»)
+
+-- whether the wait is over
+abbrev pub isOver : Fate → Bool
+isOver Stays = false
+isOver (Given i) = true
+isOver TimedOut = true
+isOver Slept = true
 
 -- ---- the objects
 abbrev pub takes : Fate → Thread → List ℕ

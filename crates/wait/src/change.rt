@@ -15,6 +15,17 @@ fn is_slot(k: u32) -> bool
     k < 129
 }
 
+// Whether taking the object changes anything.
+pub fn takes(k: u32, x: Slot) -> bool
+    ensures { λ r. ⌜ r ≡ def.takes k x ⌝ }
+{
+    if !is_slot(k) {
+        return false;
+    }
+    let o = x.object;
+    acquire::acquire_changes(o)
+}
+
 pub fn taken(k: u32, x: Slot, w: u32) -> Slot
     ensures { λ r. ⌜ r ≡ def.takenSlot k x w ⌝ }
 {
@@ -51,6 +62,16 @@ fn last_held(k: u32, x: Slot) -> bool
         return false;
     }
     x.refcount < 2
+}
+
+// A holder goes, and it is not the last.
+pub fn counts_down(k: u32, x: Slot) -> bool
+    ensures { λ r. ⌜ r ≡ def.countsDown k x ⌝ }
+{
+    if !held(k, x) {
+        return false;
+    }
+    2 <= x.refcount
 }
 
 // The last holder of an arbiter goes, and threads are parked on it.

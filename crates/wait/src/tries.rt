@@ -1,13 +1,15 @@
-// The tries of a pass (`try_satisfy_wait` for each thread by number).
+// What a pass does before it chooses (`fire_timers`, `try_satisfy_wait` for each thread by number, the end of pulses).
 use crate::change;
 use crate::fate;
 use crate::satisfy;
+use block::parts;
 use object::store;
 use pass::Fate;
 use pass::IndexOption;
 use pass::Waits;
+use signal::pulse;
+use signal::timer;
 use thread::places;
-use types::object::ObjectStore;
 use types::thread::Thread;
 use types::thread::ThreadStatus;
 use types::thread::WaitResult;
@@ -17,9 +19,10 @@ ghost use Prim.Native.Nat.{_+_, _-_, _<_, _≤_};
 ghost use lib.ListN.{length, take};
 ghost use Rattle.laws.specs.Logic.{pick};
 ghost use Rattle.sound.specs.View.{ids};
-ghost use Rattle.pass.specs.Waits as def;
+ghost use Rattle.block.specs.Block.{decBlock};
+ghost use Rattle.pass.specs.Schedule as pass;
 ghost use Rattle.wait.specs.Looks.{endFor};
-ghost use Rattle.wait.specs.Tries.{awakened, after, fromAny, toAny, takenFrom, takenTo, leftTo};
+ghost use Rattle.wait.specs.Tries.{awakened, after, fromAny, toAny, takenFrom, takenTo, leftTo, isOver};
 
 // A Ready thread whose wait is over, with the result r.
 fn woken(t: Thread, r: WaitResult) -> Thread
@@ -153,13 +156,34 @@ fn left_to(f: Fate, n: usize) -> usize
     }
 }
 
-// Every thread by number: look at its list, take what it is given, let go of the list.
-// In place: objects or threads that are handed on would be copied for each thread.
-pub fn try_waits(tick: u64, objects: ObjectStore, threads: [Thread; 32]) -> Waits
-    ensures { λ r. ⌜ r ≡ def.tryWaits tick 32 0 (record { objects = objects; threads = threads }) ⌝ }
+fn is_over(f: Fate) -> bool
+    ensures { λ r. ⌜ r ≡ isOver f ⌝ }
 {
-    let mut s = objects;
-    let mut ts = threads;
+    match f {
+        Fate::Stays => false,
+        Fate::Given(_i) => true,
+        Fate::TimedOut => true,
+        Fate::Slept => true,
+    }
+}
+
+// Timers that are due fire; every thread by number looks at its list, takes what it is given and lets go of the list;
+// pulses end. All in one place, since a store that is handed on is copied, and only what changes is written.
+pub fn try_waits(b: &[u8], tick: u64) -> Waits
+    requires { ⌜ length (now b) ≡ 16384 ⌝ }
+    ensures { λ r. ⌜ r ≡ pass.tried (decBlock (now (b .entry))) tick ⌝ }
+{
+    let mut s = parts::get_store(b);
+    let mut ts = block::thread::get_threads(b, 128);
+    let mut d: usize = 0;
+    while d < 128 {
+        let old = s.slots[d];
+        if timer::slot_due(old, tick) {
+            s.overflow = timer::over_after(s.overflow, old, tick);
+            s.slots[d] = timer::fired_slot(tick, old);
+        }
+        d += 1;
+    }
     let mut i: usize = 0;
     while i < 32 {
         let t = ts[i];
@@ -185,26 +209,41 @@ pub fn try_waits(tick: u64, objects: ObjectStore, threads: [Thread; 32]) -> Wait
             let o = list[a];
             let p = places::slot_index(o.0);
             let x = s.slots[p];
-            s.overflow = change::taken_over(s.overflow, o.0, x);
-            s.slots[p] = change::taken(o.0, x, i as u32);
+            if change::takes(o.0, x) {
+                s.overflow = change::taken_over(s.overflow, o.0, x);
+                s.slots[p] = change::taken(o.0, x, i as u32);
+            }
             a += 1;
         }
         let left = left_to(f, n);
-        let mut b: usize = 0;
-        while b < left {
-            let o = list[b];
+        let mut g: usize = 0;
+        while g < left {
+            let o = list[g];
             let p = places::slot_index(o.0);
             let x = s.slots[p];
-            if change::unlinks(o.0, x) {
+            if change::counts_down(o.0, x) {
+                s.slots[p] = change::let_go(o.0, x, s.free);
+            } else if change::unlinks(o.0, x) {
                 s = store::release(s, o);
             } else {
                 s.slots[p] = change::let_go(o.0, x, s.free);
                 s.free = change::free_after(o.0, x, s.free);
             }
-            b += 1;
+            g += 1;
         }
-        ts[i] = tried(f, t);
+        if is_over(f) {
+            let v = ts[i];
+            ts[i] = tried(f, v);
+        }
         i += 1;
+    }
+    let mut e: usize = 0;
+    while e < 128 {
+        let old = s.slots[e];
+        if old.pulsed {
+            s.slots[e] = pulse::unpulsed_slot(old);
+        }
+        e += 1;
     }
     Waits {
         objects: s,

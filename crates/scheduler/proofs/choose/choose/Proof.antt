@@ -4,6 +4,7 @@ use native.Mathlib.Omega.{arith}
 use Rattle.laws.specs.Logic.{pick, _and_, _or_, and-no, and-yes}
 use borrow.Author.Tests.{lt-ltb, le-ltb, lt-leb, le-leb, eq-eqb, ne-eqb, not-true, not-false}
 use lib.ListN.{length}
+use Rattle.scheduler.specs.Turn.{turning}
 use Rattle.scheduler.specs.Place.{choose-is}
 use borrow.Author.Needs.{needs}
 use Rattle.scheduler.proofs.choose.choose.Statement.{statement}
@@ -12,7 +13,6 @@ use Rattle.scheduler.proofs.choose.choose.Reads as reads
 use Rattle.scheduler.proofs.choose.choose.Lts as lts
 use Rattle.scheduler.proofs.choose.chosen.Reads as chosen-reads
 use Rattle.scheduler.proofs.choose.flipped.Reads as flipped-reads
-use Rattle.scheduler.proofs.choose.is_none.Reads as is-none-reads
 use Rattle.scheduler.proofs.choose.stays.Reads as stays-reads
 use Rattle.scheduler.proofs.choose.switches.Reads as switches-reads
 use Rattle.scheduler.proofs.choose.unless.Reads as unless-reads
@@ -132,9 +132,6 @@ unless-requires c κs = search needs
 unless-requires-2 : tie.Need-unless-requires-2
 unless-requires-2 c κs = search needs
 
-is-none-requires : tie.Need-is-none-requires
-is-none-requires c κs = search needs
-
 switches-requires : tie.Need-switches-requires
 switches-requires c κs = search needs
 
@@ -142,16 +139,16 @@ flipped-requires : tie.Need-flipped-requires
 flipped-requires c κs = search needs
 
 returns : tie.Need-returns
-returns c =
-    let a = c .before .before .before .before .before .before .before .before .before .before .before .before .before .before .before .before .before .before .before .before .before .before .before .before .args in
-    let n : length (a .ts) ≡ 32 = omega (arith, c .before .before .before .before .before .before .before .before .before .before .before .before .before .before .before .before .before .before .before .before .before .before .before .before .good) in
-    rw (c .flipped .ensures, c .before .switches .ensures, c .before .before .is-none .ensures, c .before .before .before .before .unless2 .ensures, c .before .before .before .before .before .unless .ensures)
-    (choose-is (a .k) (a .s) (a .ts) (a .tick) n (c .before .before .before .before .before .before .before .before .before .before .before .before .before .before .before .before .before .before .before .before .before .before .before .place-of .result) (c .before .before .before .before .before .before .before .before .before .before .before .before .before .before .before .before .before .before .before .place-of2 .result) (c .before .before .before .before .before .before .before .before .before .before .before .before .before .place-of3 .result)
-    (c .before .before .before .before .before .before .before .before .before .before .before .before .before .before .before .before .before .before .before .before .before .mark-waited .result) (c .before .before .before .before .before .before .before .before .before .before .before .before .before .before .before .before .before .begin-run .result) (c .before .before .before .before .before .before .before .before .before .before .before .begin-run2 .result) (c .before .before .before .before .before .before .before .before .leave-core .result) (c .before .before .before .before .before .before .take-core .result)
-    (c .before .before .before .before .before .before .before .before .before .before .before .before .before .before .before .before .before .before .before .before .pick-next .result) (c .before .before .before .before .before .before .before .before .before .before .before .before .before .before .chosen .result) (c .before .before .before .before .before .before .before .before .before .before .before .before .before .before .before .starving .result) (c .before .before .before .before .before .before .before .before .before .before .stays .result)
-    (c .before .before .before .before .before .before .before .before .before .before .before .before .before .before .before .before .before .before .before .before .before .before .before .place-of .ensures .0) (c .before .before .before .before .before .before .before .before .before .before .before .before .before .before .before .before .before .before .before .before .before .mark-waited .ensures) (c .before .before .before .before .before .before .before .before .before .before .before .before .before .before .before .before .before .before .before .before .pick-next .ensures)
-    (c .before .before .before .before .before .before .before .before .before .before .before .before .before .before .before .before .before .before .before .place-of2 .ensures .0) (c .before .before .before .before .before .before .before .before .before .before .before .before .before .before .before .before .before .begin-run .ensures) (c .before .before .before .before .before .before .before .before .before .before .before .before .before .before .before .starving .ensures) (c .before .before .before .before .before .before .before .before .before .before .before .before .before .before .chosen .ensures)
-    (c .before .before .before .before .before .before .before .before .before .before .before .before .before .place-of3 .ensures .0) (c .before .before .before .before .before .before .before .before .before .before .before .begin-run2 .ensures) (c .before .before .before .before .before .before .before .before .before .before .stays .ensures) (c .before .before .before .before .before .before .before .before .leave-core .ensures) (c .before .before .before .before .before .before .take-core .ensures))
+returns c k s =
+    let a = c .before .before .before .before .before .before .before .before .before .before .before .before .before .before .before .before .before .before .before .before .before .before .args in
+    let n : length (a .ts) ≡ 32 = omega (arith, c .before .before .before .before .before .before .before .before .before .before .before .before .before .before .before .before .before .before .before .before .before .before .good) in
+    rw (c .flipped .ensures, c .before .switches .ensures, c .before .before .unless2 .ensures, c .before .before .before .unless .ensures)
+    (choose-is (turning k (a .current) (a .relief)) s (a .ts) (a .tick) n (c .before .before .before .before .before .before .before .before .before .before .before .before .before .before .before .before .before .before .before .before .before .place-of .result) (c .before .before .before .before .before .before .before .before .before .before .before .before .before .before .before .before .before .place-of2 .result) (c .before .before .before .before .before .before .before .before .before .before .before .place-of3 .result)
+    (c .before .before .before .before .before .before .before .before .before .before .before .before .before .before .before .before .before .before .before .mark-waited .result) (c .before .before .before .before .before .before .before .before .before .before .before .before .before .before .before .begin-run .result) (c .before .before .before .before .before .before .before .before .before .begin-run2 .result) (c .before .before .before .before .before .before .leave-core .result) (c .before .before .before .before .take-core .result)
+    (c .before .before .before .before .before .before .before .before .before .before .before .before .before .before .before .before .before .before .pick-next .result) (c .before .before .before .before .before .before .before .before .before .before .before .before .chosen .result) (c .before .before .before .before .before .before .before .before .before .before .before .before .before .starving .result) (c .before .before .before .before .before .before .before .before .stays .result)
+    (c .before .before .before .before .before .before .before .before .before .before .before .before .before .before .before .before .before .before .before .before .before .place-of .ensures .0) (c .before .before .before .before .before .before .before .before .before .before .before .before .before .before .before .before .before .before .before .mark-waited .ensures) (c .before .before .before .before .before .before .before .before .before .before .before .before .before .before .before .before .before .before .pick-next .ensures)
+    (c .before .before .before .before .before .before .before .before .before .before .before .before .before .before .before .before .before .place-of2 .ensures .0) (c .before .before .before .before .before .before .before .before .before .before .before .before .before .before .before .begin-run .ensures) (c .before .before .before .before .before .before .before .before .before .before .before .before .before .starving .ensures) (c .before .before .before .before .before .before .before .before .before .before .before .before .chosen .ensures)
+    (c .before .before .before .before .before .before .before .before .before .before .before .place-of3 .ensures .0) (c .before .before .before .before .before .before .before .before .before .begin-run2 .ensures) (c .before .before .before .before .before .before .before .before .stays .ensures) (c .before .before .before .before .before .before .leave-core .ensures) (c .before .before .before .before .take-core .ensures))
 
 pub choose-spec : {M : Type 1} → statement M
 choose-spec =
@@ -193,7 +190,6 @@ choose-spec =
     array-set-from-l-5
     unless-requires
     unless-requires-2
-    is-none-requires
     switches-requires
     flipped-requires
     returns)

@@ -1,0 +1,2 @@
+-- The laws that the proofs of `running` cite.
+pub mod Passes
