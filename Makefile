@@ -1,6 +1,7 @@
 # make             prove and write the static library, then run the C tests of its exports
 # make test        prove everything, then all C tests that need no original
 # make demo        three guest programs on a simulated clock; prints their timeline
+# make growth      how the time of a call grows with threads, objects and handles
 # make differential, record, flips, bench, bench-original, profile     need cargo and ORIGINAL, a copy of the original's source
 CC = gcc
 CFLAGS = -std=c11 -O2 -Wall -Wextra -Iinclude
