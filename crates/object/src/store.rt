@@ -16,13 +16,6 @@ ghost use Rattle.object.specs.Slots as parts;
 ghost use Rattle.object.specs.Store as def;
 ghost use Rattle.object.specs.Held as one;
 
-pub fn refcount(s: ObjectStore, o: ObjectId) -> u32
-    ensures { λ r. ⌜ r ≡ def.refcount s (o .0) ⌝ }
-{
-    let old = slots::slot_at(s, o);
-    old.refcount
-}
-
 // The object changes what it holds.
 pub fn content(s: ObjectStore, o: ObjectId, v: KObject) -> ObjectStore
     ensures { λ r. ⌜ r ≡ parts.content s (o .0) v ⌝ }

@@ -1,4 +1,4 @@
-// The end of a wait, and of a thread (`end_wait`, `end_thread`). A number past the places names no thread.
+// The end of a thread, and with it of its wait (`end_thread`, `end_wait`). A number past the places names no thread.
 use crate::thread;
 use object::store;
 use types::kernel::Kernel;
@@ -20,18 +20,6 @@ ghost use Rattle.object.specs.Slots.{withObject};
 ghost use Rattle.thread.specs.Thread.{clearWait};
 ghost use Rattle.thread.specs.Threads as def;
 
-fn put_cleared(ts: [Thread; 32], t: u32) -> [Thread; 32]
-    ensures { λ r. ⌜ r ≡ set ts t (clearWait (threadAt ts t)) ⌝ }
-{
-    if 32 <= t {
-        return ts;
-    }
-    let i = t as usize;
-    let mut l = ts;
-    l[i] = thread::without_wait(l[i]);
-    l
-}
-
 // The objects of the thread's list are let go, in list order.
 fn release_waits(s: ObjectStore, ts: [Thread; 32], t: u32) -> ObjectStore
     ensures { λ r. ⌜ r ≡ def.releaseWaits s ts t ⌝ }
@@ -43,19 +31,6 @@ fn release_waits(s: ObjectStore, ts: [Thread; 32], t: u32) -> ObjectStore
     let old = ts[i];
     let list = old.wait_objects;
     store::release_list(s, list, old.wait_count)
-}
-
-pub fn end_wait(k: Kernel, t: u32) -> Kernel
-    ensures { λ r. ⌜ r ≡ def.endWait k t ⌝ }
-{
-    let ts = k.threads;
-    let before = k.objects;
-    let objects = release_waits(before, ts, t);
-    let threads = put_cleared(ts, t);
-    let mut q = k;
-    q.objects = objects;
-    q.threads = threads;
-    q
 }
 
 fn is_current(w: ThreadOption, t: u32) -> bool
