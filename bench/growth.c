@@ -98,6 +98,7 @@ static void measure(const char *what, void (*make)(uint32_t), const uint32_t *co
 
 int main(void)
 {
+    microseconds(copy); /* the first figures of a processor that was idle are too high */
     measure("threads", threads, (const uint32_t[]){1, 8, 16, 32}, 4);
     measure("objects", objects, (const uint32_t[]){1, 32, 64, 128}, 4);
     measure("handles", handles, (const uint32_t[]){1, 64, 128, 256}, 4);
