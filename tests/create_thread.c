@@ -55,9 +55,7 @@ static void makes(const uint8_t *before, uint32_t entry, uint32_t priority, cons
     if (after == NULL) {
         check(same(&block) && same(&bank) && same(&answer), "%s: refused, and a byte changed", what);
     } else {
-        size_t at = 0;
-        while (at < KERNEL_BLOCK_LEN && block.at[at] == after[at])
-            at++;
+        size_t at = first_difference(&block, after);
         check(at == KERNEL_BLOCK_LEN, "%s: byte %zu differs", what, at);
         row(rows + KERNEL_CONTEXT_LEN * thread, get32(before, STATUS_WORD), entry, get32(after, thread_at(thread) + TLS));
         check(memcmp(rows, bank.at, sizeof rows) == 0, "%s: the bank differs", what);

@@ -17,9 +17,7 @@ static void ends(const uint8_t *before, uint32_t thread, const char *what, const
     keep(&block);
     uint32_t number = kernel_end_thread(block.at, block.len, thread);
     check(number == KERNEL_DONE, "%s: answer %u", what, number);
-    size_t at = 0;
-    while (at < KERNEL_BLOCK_LEN && block.at[at] == after[at])
-        at++;
+    size_t at = first_difference(&block, after);
     check(at == KERNEL_BLOCK_LEN, "%s: byte %zu differs", what, at);
     check(same_around(&block), "%s: a byte outside the block changed", what);
     number = kernel_end_thread(block.at, block.len, thread);

@@ -52,9 +52,7 @@ void calls(const uint8_t *before, const struct call *c, const char *what, struct
     if (expected.after == NULL) {
         check(same(&block) && same(&bank) && same(&processor) && same(&window), "%s: refused, and a byte changed", what);
     } else {
-        size_t at = 0;
-        while (at < KERNEL_BLOCK_LEN && block.at[at] == expected.after[at])
-            at++;
+        size_t at = first_difference(&block, expected.after);
         check(at == KERNEL_BLOCK_LEN, "%s: byte %zu differs: %u, not %u", what, at, block.at[at % KERNEL_BLOCK_LEN], expected.after[at % KERNEL_BLOCK_LEN]);
         if (expected.writes & R0)
             put32(context, 0, expected.r0);

@@ -75,6 +75,14 @@ int same_around(const struct lent *l)
     return memcmp(l->kept, l->pages, before) == 0 && memcmp(l->kept + end, l->pages + end, l->pages_len - end) == 0;
 }
 
+size_t first_difference(const struct lent *l, const uint8_t *expected)
+{
+    size_t at = 0;
+    while (at < l->len && l->at[at] == expected[at])
+        at++;
+    return at;
+}
+
 void forbid_writes(struct lent *l)
 {
     must(mprotect(l->pages, l->pages_len, PROT_READ) == 0, "mprotect");

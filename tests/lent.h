@@ -31,6 +31,9 @@ void keep(struct lent *l);
 int same(const struct lent *l);
 int same_around(const struct lent *l);
 
+/* The first byte of the slice that is not the expected one; its length if there is none. */
+size_t first_difference(const struct lent *l, const uint8_t *expected);
+
 /* From now on a write is a fault; or not any more. */
 void forbid_writes(struct lent *l);
 void allow_writes(struct lent *l);

@@ -29,9 +29,7 @@ static void passes(const uint8_t *before, uint64_t tick, const char *what, uint3
     if (after == NULL) {
         check(same(&block) && same(&bank) && same(&processor) && same(&answer), "%s: refused, and a byte changed", what);
     } else {
-        size_t at = 0;
-        while (at < KERNEL_BLOCK_LEN && block.at[at] == after[at])
-            at++;
+        size_t at = first_difference(&block, after);
         check(at == KERNEL_BLOCK_LEN, "%s: byte %zu differs", what, at);
         if (saved != NOBODY)
             memcpy(rows + KERNEL_CONTEXT_LEN * saved, context, KERNEL_CONTEXT_LEN);
