@@ -37,7 +37,7 @@ pub fn park_time(timed: bool, nanos: u64) -> TickOption
     if !timed {
         return TickOption::NoTick;
     }
-    if calls::call::negative(nanos) {
+    if answering::negative(nanos) {
         return TickOption::NoTick;
     }
     TickOption::SomeTick(units::nanos_to_ticks(Nanos(nanos)))
@@ -114,7 +114,7 @@ fn park_at(c: u32, k: Kernel, o: ObjectId, a: u32, time: TickOption, tick: u64) 
 {
     let s = k.objects;
     let ts = k.threads;
-    let wake = wait::begin::wake_tick(time, tick);
+    let wake = begin::wake_tick(time, tick);
     let objects = waiters::push(s, o, c, a);
     let threads = put_parked(ts, c, a, wake);
     let mut q = k;

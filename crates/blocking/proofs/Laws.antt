@@ -29,14 +29,10 @@ use Rattle.svc.specs.Waits.{wait1As, waitSynchronization1}
 pub far : (ts : List Thread) (t : ℕ) → length ts ≤ t → threadAt ts t ≡ noThread
 far ts t h = List·getD-eq-default ts noThread h
 
--- ---- nothing came due, and a handle that is no pseudo-handle: the store stays
+-- ---- nothing came due: the store stays
 pub none-due : (s : ObjectStore) (ts : List Thread) (tick : ℕ) → timerDue tick (s .slots) ≡ false → s ≡ catchUpTimers s ts tick
 unfolding catchUpTimers
 none-due s ts tick e = rw e
-
-pub plain : (c : ThreadOption) (t : HandleTable) (s : ObjectStore) (h : ℕ) → pseudo h ≡ false → resolve c t s h ≡ record { object = record { 0 = objectOf t h }; store = s }
-unfolding resolve
-plain c t s h e = let p = or-false (eqb h 0xFFFF8000) (eqb h 0xFFFF8001) e in rw (p .0, p .1)
 
 -- ---- `wait_synchronization1`
 no-thread : (c : ThreadOption) (k : Kernel) (o nanos tick : ℕ) → threadFlag c ≡ 0 → done k ≡ wait1As c k o nanos tick

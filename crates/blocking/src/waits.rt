@@ -2,7 +2,6 @@
 use object::handles;
 use object::kept;
 use object::slots;
-use signal::acquire;
 use signal::catch_up;
 use signal::timer;
 use svc::Registers;
@@ -24,27 +23,16 @@ ghost use lib.ListN.{length, set};
 ghost use Rattle.types.specs.Thread.{isDead};
 ghost use Rattle.sound.specs.View.{objectAt, threadAt};
 ghost use Rattle.thread.specs.Thread.{withResult};
-ghost use Rattle.pass.specs.Asks.{pseudo};
 ghost use Rattle.pass.specs.Signal.{isSignaled};
 ghost use Rattle.svc.specs.Call.{pair, negative};
 ghost use Rattle.svc.specs.Waits as def;
 ghost use Rattle.blocking.specs.Waits.{waitOnIn};
 
-// 0xFFFF8000 and 0xFFFF8001, which name no entry of the table.
-pub fn is_pseudo(h: u32) -> bool
-    ensures { λ r. ⌜ r ≡ pseudo h ⌝ }
-{
-    if h == 0xFFFF8000 {
-        return true;
-    }
-    h == 0xFFFF8001
-}
-
 // A negative time waits for good.
 fn wait_time(nanos: u64) -> TickOption
     ensures { λ r. ⌜ r ≡ def.waitTime nanos ⌝ }
 {
-    if calls::call::negative(nanos) {
+    if answering::negative(nanos) {
         return TickOption::NoTick;
     }
     TickOption::SomeTick(units::nanos_to_ticks(Nanos(nanos)))
@@ -82,7 +70,7 @@ pub fn wait_on(
 ) -> Served
     ensures { λ r. ⌜ r ≡ waitOnIn k c l n all nanos tick call ⌝ }
 {
-    let mut q = wait::begin::begin_wait(k, l, n, all, wait_time(nanos), tick);
+    let mut q = begin::begin_wait(k, l, n, all, wait_time(nanos), tick);
     let ts = q.threads;
     let noted = put_call(ts, c, call);
     q.threads = noted;
@@ -172,7 +160,7 @@ pub fn wait_synchronization1(k: Kernel, r: Registers, tick: u64) -> Served
         s = catch_up::catch_up_timers(s, ts, tick);
     }
     let mut o = handles::object_of(t, Handle(r.r0));
-    if is_pseudo(r.r0) {
+    if answering::is_pseudo(r.r0) {
         let x = kept::resolve(current, t, s, Handle(r.r0));
         o = x.object;
         s = x.store;
@@ -201,7 +189,7 @@ pub fn wait_synchronization1(k: Kernel, r: Registers, tick: u64) -> Served
         q,
         types::thread::thread_value(current),
         o,
-        calls::call::pair(r.r2, r.r3),
+        answering::pair(r.r2, r.r3),
         tick,
     )
 }

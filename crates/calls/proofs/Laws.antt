@@ -153,11 +153,6 @@ unfolding setTimer
 set-by b r tick k e =
     ap (λ (z : Kernel). setTimerAs (objectAt (resolved z (r .r0) .store) (resolved z (r .r0) .object .0)) (withObjects z (resolved z (r .r0) .store)) (resolved z (r .r0) .object .0) (notBelow (pair (r .r2) (r .r3))) (notBelow (pair (r .r1) (r .r4))) tick) e
 
--- a handle below the pseudo-handles names what the table says, and makes nothing
-pub resolved-plain : (k : Kernel) (h : ℕ) → h < 0xFFFF8000 → resolved k h ≡ record { object = record { 0 = objectOf (k .handles) h }; store = k .objects }
-unfolding resolve
-resolved-plain k h l = rw (ne-eqb h 0xFFFF8000 (λ e. omega (arith, e, l)), ne-eqb h 0xFFFF8001 (λ e. omega (arith, e, l)))
-
 -- ---- the locks of a mutex after a release
 pub last-lock : (n : ℕ) → n ≤ 1 → n - 1 ≡ 0
 last-lock n h = omega (arith, h)

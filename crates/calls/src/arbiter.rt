@@ -1,5 +1,4 @@
 // `create_address_arbiter` (svc.rs).
-use crate::call;
 use svc::Registers;
 use svc::Served;
 use types::kernel::Kernel;
@@ -11,5 +10,5 @@ ghost use Rattle.svc.specs.Arbiter as def;
 pub fn create_address_arbiter(k: Kernel, _r: Registers) -> Served
     ensures { λ s. ⌜ s ≡ def.createAddressArbiter k ⌝ }
 {
-    call::create_object(k, KObject::AddressArbiter(AddressArbiter { waiters: 0 }))
+    answering::create_object(k, KObject::AddressArbiter(AddressArbiter { waiters: 0 }))
 }

@@ -1,5 +1,4 @@
 // `close_handle` and `duplicate_handle` (svc.rs).
-use crate::call;
 use svc::Registers;
 use svc::Served;
 use types::kernel::Kernel;
@@ -16,16 +15,16 @@ pub fn close_handle(k: Kernel, r: Registers) -> Served
     let b = object::handles::close(before, held, Handle(r.r0));
     let table = b.table;
     let objects = b.store;
-    call::done(call::with_handles(k, table, objects))
+    answering::done(answering::with_handles(k, table, objects))
 }
 
 pub fn duplicate_handle(k: Kernel, r: Registers) -> Served
     ensures { λ s. ⌜ s ≡ def.duplicateHandle k r ⌝ }
 {
-    let o = call::resolved_object(k, r.r1);
-    let mut q = call::resolved_kernel(k, r.r1);
+    let o = answering::resolved_object(k, r.r1);
+    let mut q = answering::resolved_kernel(k, r.r1);
     if o.0 == 0 {
-        return call::answers(16, q);
+        return answering::answers(16, q);
     }
     let s = q.objects;
     let before = q.handles;
@@ -35,5 +34,5 @@ pub fn duplicate_handle(k: Kernel, r: Registers) -> Served
     let objects = b.store;
     q.handles = table;
     q.objects = objects;
-    call::gives(q, h.0)
+    answering::gives(q, h.0)
 }

@@ -1,7 +1,5 @@
-// The guest calls on threads, mutexes, semaphores, events, timers and handles (svc.rs), and collect.
+// The guest calls on threads, mutexes, semaphores, events, timers and handles (svc.rs).
 pub mod arbiter;
-pub mod call;
-pub mod collect;
 pub mod handles;
 pub mod kinds;
 pub mod sync;

@@ -1,5 +1,4 @@
 // The calls on mutexes, semaphores and events (svc.rs).
-use crate::call;
 use crate::kinds;
 use object::handles;
 use object::store;
@@ -37,7 +36,7 @@ pub fn create_mutex(k: Kernel, r: Registers) -> Served
 {
     let current = k.current_thread;
     let m = new_mutex(current, r.r1);
-    call::create_object(k, KObject::Mutex(m))
+    answering::create_object(k, KObject::Mutex(m))
 }
 
 // With the last lock it has no owner.
@@ -61,23 +60,23 @@ fn unlocked(m: Mutex) -> Mutex
 pub fn release_mutex(k: Kernel, r: Registers) -> Served
     ensures { λ s. ⌜ s ≡ def.releaseMutex k r ⌝ }
 {
-    let o = call::resolved_object(k, r.r0);
-    let mut q = call::resolved_kernel(k, r.r0);
+    let o = answering::resolved_object(k, r.r0);
+    let mut q = answering::resolved_kernel(k, r.r0);
     let s = q.objects;
-    let old = call::object_at(s, o);
+    let old = answering::object_at(s, o);
     if types::object::kind_number(old) != 3 {
-        return call::answers(16, q);
+        return answering::answers(16, q);
     }
     let m = unlocked(kinds::mutex_of(old));
     let objects = store::content(s, o, KObject::Mutex(m));
     q.objects = objects;
-    call::done(q)
+    answering::done(q)
 }
 
 pub fn create_semaphore(k: Kernel, r: Registers) -> Served
     ensures { λ s. ⌜ s ≡ def.createSemaphore k r ⌝ }
 {
-    call::create_object(
+    answering::create_object(
         k,
         KObject::Semaphore(Semaphore {
             count: r.r1,
@@ -139,12 +138,12 @@ fn released_semaphore(s: Semaphore, n: u32) -> Semaphore
 pub fn release_semaphore(k: Kernel, r: Registers) -> Served
     ensures { λ s. ⌜ s ≡ def.releaseSemaphore k r ⌝ }
 {
-    let o = call::resolved_object(k, r.r1);
-    let mut q = call::resolved_kernel(k, r.r1);
+    let o = answering::resolved_object(k, r.r1);
+    let mut q = answering::resolved_kernel(k, r.r1);
     let s = q.objects;
-    let old = call::object_at(s, o);
+    let old = answering::object_at(s, o);
     if types::object::kind_number(old) != 4 {
-        return call::answers(16, q);
+        return answering::answers(16, q);
     }
     let before = kinds::semaphore_of(old);
     let after = released_semaphore(before, r.r2);
@@ -152,14 +151,14 @@ pub fn release_semaphore(k: Kernel, r: Registers) -> Served
     let objects = store::content(s, o, KObject::Semaphore(after));
     q.objects = objects;
     q.overflow = handles::either(q.overflow, over);
-    call::gives(q, before.count)
+    answering::gives(q, before.count)
 }
 
 pub fn create_event(k: Kernel, r: Registers) -> Served
     ensures { λ s. ⌜ s ≡ def.createEvent k r ⌝ }
 {
     let kind = types::sync::reset_from_raw(r.r1);
-    call::create_object(
+    answering::create_object(
         k,
         KObject::Event(Event {
             reset_type: kind,
@@ -172,28 +171,28 @@ pub fn create_event(k: Kernel, r: Registers) -> Served
 pub fn signal_event(k: Kernel, r: Registers) -> Served
     ensures { λ s. ⌜ s ≡ def.signalEvent k r ⌝ }
 {
-    let o = call::resolved_object(k, r.r0);
-    let mut q = call::resolved_kernel(k, r.r0);
+    let o = answering::resolved_object(k, r.r0);
+    let mut q = answering::resolved_kernel(k, r.r0);
     if o.0 == 0 {
-        return call::answers(16, q);
+        return answering::answers(16, q);
     }
     let s = q.objects;
     let ts = q.threads;
     let objects = signal::event::signal_event(s, ts, o);
     q.objects = objects;
-    call::done(q)
+    answering::done(q)
 }
 
 pub fn clear_event(k: Kernel, r: Registers) -> Served
     ensures { λ s. ⌜ s ≡ def.clearEvent k r ⌝ }
 {
-    let o = call::resolved_object(k, r.r0);
-    let mut q = call::resolved_kernel(k, r.r0);
+    let o = answering::resolved_object(k, r.r0);
+    let mut q = answering::resolved_kernel(k, r.r0);
     if o.0 == 0 {
-        return call::answers(16, q);
+        return answering::answers(16, q);
     }
     let s = q.objects;
     let objects = signal::event::clear_event(s, o);
     q.objects = objects;
-    call::done(q)
+    answering::done(q)
 }

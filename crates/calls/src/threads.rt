@@ -1,5 +1,4 @@
 // `create_thread`, `exit_thread`, `sleep_thread` and `set_thread_priority` (svc.rs).
-use crate::call;
 use object::handles;
 use object::kept;
 use svc::Registers;
@@ -31,7 +30,7 @@ fn thread_handle(k: Kernel, id: u32) -> Served
     let b = handles::create(before, s, kept::kept_at(list, id));
     let table = b.table;
     let objects = b.store;
-    call::gives(call::with_handles(k, table, objects), h.0)
+    answering::gives(answering::with_handles(k, table, objects), h.0)
 }
 
 pub fn create_thread(k: Kernel, r: Registers) -> Served
@@ -47,8 +46,8 @@ fn exit_as(current: ThreadOption, k: Kernel) -> Served
     ensures { λ s. ⌜ s ≡ def.exitAs current k ⌝ }
 {
     match current {
-        ThreadOption::NoThread => call::silent(k),
-        ThreadOption::SomeThread(c) => call::silent(thread::end::end_thread(k, c)),
+        ThreadOption::NoThread => answering::silent(k),
+        ThreadOption::SomeThread(c) => answering::silent(thread::end::end_thread(k, c)),
     }
 }
 
@@ -118,15 +117,15 @@ fn sleep_for(time: TickOption, k: Kernel, tick: u64) -> Kernel
             let current = k.current_thread;
             runs_since(current, k, tick)
         }
-        TickOption::SomeTick(d) => wait::begin::sleep_current(k, d.0, tick),
+        TickOption::SomeTick(d) => begin::sleep_current(k, d.0, tick),
     }
 }
 
 pub fn sleep_thread(k: Kernel, r: Registers, tick: u64) -> Served
     ensures { λ s. ⌜ s ≡ def.sleepThread k r tick ⌝ }
 {
-    let time = sleep_ticks(k, call::pair(r.r0, r.r1), tick);
-    call::done(sleep_for(time, k, tick))
+    let time = sleep_ticks(k, answering::pair(r.r0, r.r1), tick);
+    answering::done(sleep_for(time, k, tick))
 }
 
 fn thread_named(x: KObject) -> ThreadOption
@@ -155,15 +154,15 @@ pub fn resolve_thread(k: Kernel, h: u32) -> ThreadOption
     let table = k.handles;
     let s = k.objects;
     let o = handles::object_of(table, Handle(h));
-    thread_named(call::object_at(s, o))
+    thread_named(answering::object_at(s, o))
 }
 
 fn set_priority_as(named: ThreadOption, k: Kernel, p: u32) -> Served
     ensures { λ s. ⌜ s ≡ def.setPriorityAs named k p ⌝ }
 {
     match named {
-        ThreadOption::NoThread => call::answers(16, k),
-        ThreadOption::SomeThread(t) => call::done(thread::priority::set_priority(k, t, p)),
+        ThreadOption::NoThread => answering::answers(16, k),
+        ThreadOption::SomeThread(t) => answering::done(thread::priority::set_priority(k, t, p)),
     }
 }
 

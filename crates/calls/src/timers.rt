@@ -1,5 +1,4 @@
 // The calls on timers (svc.rs). Each of the three that name a timer first fires what came due.
-use crate::call;
 use crate::kinds;
 use object::store;
 use signal::catch_up;
@@ -22,7 +21,7 @@ pub fn create_timer(k: Kernel, r: Registers) -> Served
     ensures { λ s. ⌜ s ≡ def.createTimer k r ⌝ }
 {
     let kind = types::sync::reset_from_raw(r.r1);
-    call::create_object(
+    answering::create_object(
         k,
         KObject::Timer(Timer {
             reset_type: kind,
@@ -44,15 +43,15 @@ fn caught_up(k: Kernel, tick: u64) -> Kernel
     }
     let ts = k.threads;
     let objects = catch_up::catch_up_timers(before, ts, tick);
-    call::with_objects(k, objects)
+    answering::with_objects(k, objects)
 }
 
 // Two registers as nanoseconds; below 0 counts as 0.
 fn delay(low: u32, high: u32) -> u64
     ensures { λ n. ⌜ n ≡ def.notBelow (pair low high) ⌝ }
 {
-    let n = call::pair(low, high);
-    if call::negative(n) {
+    let n = answering::pair(low, high);
+    if answering::negative(n) {
         return 0;
     }
     n
@@ -63,7 +62,7 @@ fn set_to(t: Timer, initial: u64, interval: u64, tick: u64) -> Timer
 {
     let kind = t.reset_type;
     let first = units::nanos_to_ticks(Nanos(initial));
-    let at = wait::begin::saturating_add(tick, first.0);
+    let at = begin::saturating_add(tick, first.0);
     let period = units::nanos_to_ticks(Nanos(interval));
     Timer {
         reset_type: kind,
@@ -87,17 +86,17 @@ pub fn set_timer(k: Kernel, r: Registers, tick: u64) -> Served
     ensures { λ s. ⌜ s ≡ def.setTimer k r tick ⌝ }
 {
     let c = caught_up(k, tick);
-    let o = call::resolved_object(c, r.r0);
-    let mut q = call::resolved_kernel(c, r.r0);
+    let o = answering::resolved_object(c, r.r0);
+    let mut q = answering::resolved_kernel(c, r.r0);
     let s = q.objects;
-    let old = call::object_at(s, o);
+    let old = answering::object_at(s, o);
     if types::object::kind_number(old) != 5 {
-        return call::answers(16, q);
+        return answering::answers(16, q);
     }
     let t = set_by(old, r, tick);
     let objects = store::content(s, o, KObject::Timer(t));
     q.objects = objects;
-    call::done(q)
+    answering::done(q)
 }
 
 fn stopped(t: Timer) -> Timer
@@ -134,13 +133,13 @@ pub fn cancel_timer(k: Kernel, r: Registers, tick: u64) -> Served
     ensures { λ s. ⌜ s ≡ def.cancelTimer k r tick ⌝ }
 {
     let c = caught_up(k, tick);
-    let o = call::resolved_object(c, r.r0);
-    let mut q = call::resolved_kernel(c, r.r0);
+    let o = answering::resolved_object(c, r.r0);
+    let mut q = answering::resolved_kernel(c, r.r0);
     let s = q.objects;
-    let after = cancelled(call::object_at(s, o));
+    let after = cancelled(answering::object_at(s, o));
     let objects = store::content(s, o, after);
     q.objects = objects;
-    call::done(q)
+    answering::done(q)
 }
 
 // The signal goes, as that of a lost pulse does.
@@ -148,11 +147,11 @@ pub fn clear_timer(k: Kernel, r: Registers, tick: u64) -> Served
     ensures { λ s. ⌜ s ≡ def.clearTimer k r tick ⌝ }
 {
     let c = caught_up(k, tick);
-    let o = call::resolved_object(c, r.r0);
-    let mut q = call::resolved_kernel(c, r.r0);
+    let o = answering::resolved_object(c, r.r0);
+    let mut q = answering::resolved_kernel(c, r.r0);
     let s = q.objects;
-    let after = catch_up::lost_object(call::object_at(s, o));
+    let after = catch_up::lost_object(answering::object_at(s, o));
     let objects = store::content(s, o, after);
     q.objects = objects;
-    call::done(q)
+    answering::done(q)
 }

@@ -62,7 +62,7 @@ fn thread_part(block: &mut [u8], number: u32, k: Kernel, r: Registers, tick: u64
     if number == 0x0C {
         return finish(block, calls::threads::set_thread_priority(k, r));
     }
-    finish(block, calls::call::silent(k))
+    finish(block, answering::silent(k))
 }
 
 // 0x13 to 0x16.
@@ -83,7 +83,7 @@ fn lock_part(block: &mut [u8], number: u32, k: Kernel, r: Registers) -> Outcome
     if number == 0x16 {
         return finish(block, calls::sync::release_semaphore(k, r));
     }
-    finish(block, calls::call::silent(k))
+    finish(block, answering::silent(k))
 }
 
 // 0x17 to 0x20.
@@ -113,7 +113,7 @@ fn signal_part(block: &mut [u8], number: u32, k: Kernel, r: Registers, tick: u64
     if number == 0x1D {
         return finish(block, calls::timers::clear_timer(k, r, tick));
     }
-    finish(block, calls::call::silent(k))
+    finish(block, answering::silent(k))
 }
 
 // The word at the address, 0 for a call that reads none.
@@ -162,7 +162,7 @@ fn handle_part(
     if number == 0x27 {
         return finish(block, calls::handles::duplicate_handle(k, r));
     }
-    finish(block, calls::call::silent(k))
+    finish(block, answering::silent(k))
 }
 
 // The call, on the first n words, which it reads.

@@ -1,5 +1,2 @@
-// The dispatcher of guest calls (svc.rs): the call table, the questions that are a call's own, the calls by number.
+// The dispatcher of guest calls (svc.rs): the calls by number, up to the block that one leaves.
 pub mod call;
-pub mod questions;
-pub mod registers;
-pub mod table;

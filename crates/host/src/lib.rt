@@ -118,5 +118,5 @@ pub extern "C" fn kernel_dispatch(
 pub extern "C" fn kernel_collect(block: &mut [u8], answer: &mut [u8]) -> u32
     ensures { λ r. ⌜ back r (lent (now (block .exit)) [] [] [] (now (answer .exit))) ≡ guest.collect (lent (now (block .entry)) [] [] [] (now (answer .entry))) ⌝ }
 {
-    serving::collect::operate(block, answer)
+    collecting::operate(block, answer)
 }

@@ -1,8 +1,8 @@
 // The exports on what a line of the record says. Words 1 and 2 of a line are the number and the hash that the original gave, the
 // arguments stand from word 3 on, a tick as its upper and its lower half.
-use crate::fnv;
-use crate::memory;
-use crate::memory::least;
+use sample::fnv;
+use sample::memory;
+use sample::memory::least;
 
 // A letter that names no operation gives this, which no export returns.
 const NO_OPERATION: u32 = 99;

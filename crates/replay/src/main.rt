@@ -1,11 +1,9 @@
 // Replays a recorded sample of what the original answers on the exports. The record is the program's standard input: for each
 // operation the number that the original gave, and a hash of the answer slice and of everything lent after it.
 mod calls;
-mod fnv;
-mod line;
-mod memory;
 mod replay;
-mod tally;
+
+use sample::tally;
 
 fn main() {
     let mut text = [0u8; 262144];

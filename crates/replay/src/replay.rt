@@ -1,60 +1,11 @@
 // A record, line by line.
 use crate::calls;
-use crate::fnv;
-use crate::line;
-use crate::memory;
-use crate::memory::least;
-use crate::tally;
-use crate::tally::Tally;
-
-// The hash of the answer slice continued over everything lent.
-fn hash_lent(h: u32, block: &[u8], bank: &[u8], processor: &[u8], window: &[u8]) -> u32 {
-    let h = fnv::hash(h, block);
-    let h = fnv::hash(h, bank);
-    let h = fnv::hash(h, processor);
-    fnv::hash(h, window)
-}
-
-// p AREA PLACE WORD: the host, or an operation that the library does not have, changed a word.
-fn set_word(
-    words: &[u32; 16],
-    block: &mut [u8],
-    bank: &mut [u8],
-    processor: &mut [u8],
-    window: &mut [u8],
-) {
-    if words[1] == 0 {
-        memory::store(block, words[2], words[3]);
-    } else if words[1] == 1 {
-        memory::store(bank, words[2], words[3]);
-    } else if words[1] == 2 {
-        memory::store(processor, words[2], words[3]);
-    } else {
-        memory::store(window, words[2], words[3]);
-    }
-}
-
-// Where the guest window lies and how long it is.
-struct Window(u32, u32);
-
-// w BASE LENGTH: the host lends another window. A sequence starts with none.
-fn placed(kind: u8, words: &[u32; 16], w: Window) -> Window {
-    if kind == b'w' {
-        return Window(words[1], words[2]);
-    }
-    if kind == b'r' {
-        return Window(0, 0);
-    }
-    w
-}
-
-// A sequence starts with zeros in everything.
-fn clear_lent(block: &mut [u8], bank: &mut [u8], processor: &mut [u8], window: &mut [u8]) {
-    codec::put_zeros(block, 0, block.len());
-    codec::put_zeros(bank, 0, bank.len());
-    codec::put_zeros(processor, 0, processor.len());
-    codec::put_zeros(window, 0, window.len());
-}
+use sample::line;
+use sample::memory;
+use sample::memory::Window;
+use sample::memory::least;
+use sample::tally;
+use sample::tally::Tally;
 
 // One operation, and whether the number and the hash are the original's.
 fn agrees(
@@ -68,19 +19,8 @@ fn agrees(
 ) -> bool {
     let n = least(w.1, window.len());
     let a = calls::operate(kind, words, block, bank, processor, &mut window[..n], w.0);
-    let h = hash_lent(a.1, block, bank, processor, window);
+    let h = memory::hash_lent(a.1, block, bank, processor, window);
     a.0 == words[1] && h == words[2]
-}
-
-// r PROFILE SEED starts a sequence. Refusal 3 is of a number that is no guest call.
-fn noted(kind: u8, words: &[u32; 16], t: Tally) -> Tally {
-    if kind == b'r' {
-        return tally::profile(t, words[1]);
-    }
-    if kind == b'd' && words[1] != 3 {
-        return tally::call(t, words[3]);
-    }
-    t
 }
 
 fn step(
@@ -94,13 +34,13 @@ fn step(
     counts: &mut [u32; 32],
     before: Tally,
 ) -> Tally {
-    let t = noted(kind, words, tally::line(before));
+    let t = tally::noted(kind, words, tally::line(before));
     if kind == b'p' {
-        set_word(words, block, bank, processor, window);
+        memory::set_word(words, block, bank, processor, window);
         return t;
     }
     if kind == b'r' {
-        clear_lent(block, bank, processor, window);
+        memory::clear_lent(block, bank, processor, window);
         return t;
     }
     if kind == b'w' {
@@ -130,7 +70,7 @@ pub fn replay(text: &[u8], counts: &mut [u32; 32]) -> Tally {
         if at < text.len() {
             let kind = text[at];
             at = line::read(text, at, &mut words);
-            w = placed(kind, &words, w);
+            w = memory::placed(kind, &words, w);
             t = step(
                 kind,
                 &words,

@@ -7,7 +7,6 @@ use scheduler::choose;
 use types::object::ObjectStore;
 use types::thread::ThreadOption;
 use units::Handle;
-use wait::tries;
 ghost use mathlib.Core.Path.{_≡_};
 ghost use mathlib.Core.List.{[]};
 ghost use Prim.Native.Nat.{_+_, _*_, _<_, _≤_};

@@ -58,9 +58,9 @@ fn registers_for(number: u32, processor: &[u8]) -> Registers
     requires { ⌜ length (now processor) ≡ 208 ⌝ }
     ensures { λ r. ⌜ r ≡ Rattle.svc.specs.Dispatch.given number (def.registers (now (processor .entry))) ⌝ }
 {
-    let row = dispatch::table::row_of(number);
+    let row = table::row_of(number);
     let r = registers_at(processor);
-    dispatch::registers::read_by(row.reads, r)
+    table::registers::read_by(row.reads, r)
 }
 
 fn words_at(window: &[u8], at: usize, n: usize) -> [u32; 8]
@@ -111,11 +111,11 @@ fn put_registers(processor: &mut [u8], number: u32, r0: WordOption, r1: WordOpti
     requires { ⌜ length (now processor) ≡ 208 ⌝ }
     ensures { λ _. ⌜ now (processor .exit) ≡ over (over (now (processor .entry)) 0 (bytes 4 (written (rowOf number .writes) 1 r0 (le 4 (now (processor .entry)) 0)))) 4 (bytes 4 (written (rowOf number .writes) 2 r1 (le 4 (now (processor .entry)) 4))) ⌝ }
 {
-    let row = dispatch::table::row_of(number);
+    let row = table::row_of(number);
     let old0 = codec::get32(processor, 0);
     let old1 = codec::get32(processor, 4);
-    let new0 = dispatch::registers::written(row.writes, 1, r0, old0);
-    let new1 = dispatch::registers::written(row.writes, 2, r1, old1);
+    let new0 = table::registers::written(row.writes, 1, r0, old0);
+    let new1 = table::registers::written(row.writes, 2, r1, old1);
     codec::put32(processor, 0, new0);
     codec::put32(processor, 4, new1);
 }
@@ -168,11 +168,11 @@ pub fn operate(
         return 2;
     }
     let r = registers_for(number, processor);
-    let refused = dispatch::questions::refusal(window_base, window.len() as u64, number, r, k);
+    let refused = table::questions::refusal(window_base, window.len() as u64, number, r, k);
     if refused != 0 {
         return refused;
     }
-    let n = dispatch::questions::words_read(number, r);
+    let n = table::questions::words_read(number, r);
     let words = words_in(window, window_base, number, r, n);
     let o = dispatch::call::call(block, number, k, r, words, n, tick);
     if o.found != 0 {

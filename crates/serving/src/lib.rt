@@ -1,3 +1,2 @@
-// Operations for guest code: a guest call, collect.
-pub mod collect;
+// The operation of a guest call, over what is lent.
 pub mod guest_call;

@@ -1,6 +1,5 @@
 -- The laws that the proofs of `signal` cite.
 pub mod Steps
-pub mod Acquires
 pub mod Due
 pub mod Pulses
 pub mod Timers

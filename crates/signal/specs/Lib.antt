@@ -1,4 +1,2 @@
--- What the contracts of `signal` cite: `is_signaled` and `catch_up_timers` as they are computed, and which objects an acquire changes.
-pub mod Looks
+-- What the contracts of `signal` cite: `catch_up_timers` as it is computed.
 pub mod Marks
-pub mod Takes

@@ -1,5 +1,4 @@
 // Signals, pulses and timers (the part of mod.rs that changes what an object says).
-pub mod acquire;
 pub mod catch_up;
 pub mod event;
 pub mod pulse;

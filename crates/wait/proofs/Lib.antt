@@ -1,5 +1,3 @@
 -- The laws that the proofs of `wait` cite.
 pub mod Steps
 pub mod Open
-pub mod Places
-pub mod Turns

@@ -1,5 +1,3 @@
--- Waits as they are looked at, and what a try changes.
+-- Waits as they are looked at.
 pub mod Looks
 pub mod Lists
-pub mod Change
-pub mod Tries

@@ -19,7 +19,7 @@ use Rattle.sound.specs.View.{objectAt, slotAt, noSlot, slotAt-pos, slotAt-out, 
 use Rattle.thread.specs.Marks.{slotIndex}
 use Rattle.pass.specs.declared.IndexOption.{IndexOption}
 use Rattle.pass.specs.declared.IndexOption.the-variants.{NoIndex, SomeIndex}
-use Rattle.signal.specs.Looks.{threadNamed, signaledFor, signaled-is}
+use Rattle.acquire.specs.Looks.{threadNamed, signaledFor, signaled-is}
 use Rattle.pass.specs.Signal.{isSignaled}
 use Rattle.pass.specs.Waits.{allSignaled, firstSignaled, satisfiedAt}
 

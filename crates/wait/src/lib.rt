@@ -1,7 +1,3 @@
-// Waits: what satisfies one, what a pass does with it, how one begins.
-pub mod begin;
-mod change;
-pub mod fate;
+// Waits: what satisfies one, and whether one on handles would be satisfied now.
 pub mod now;
 pub mod satisfy;
-pub mod tries;

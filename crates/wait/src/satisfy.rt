@@ -1,6 +1,5 @@
 // Which of a list's objects satisfies a wait.
 use pass::IndexOption;
-use signal::acquire;
 use thread::places;
 use types::object::KObject;
 use types::object::ObjectStore;

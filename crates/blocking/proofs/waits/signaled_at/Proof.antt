@@ -1,6 +1,6 @@
 use mathlib.Core.Path.{_∙_}
 use Rattle.sound.specs.View.{objectAt}
-use Rattle.signal.specs.Looks.{signaled-is}
+use Rattle.acquire.specs.Looks.{signaled-is}
 use borrow.Author.Needs.{needs}
 use Rattle.blocking.proofs.waits.signaled_at.Statement.{statement}
 use Rattle.blocking.proofs.waits.signaled_at.Tie as tie

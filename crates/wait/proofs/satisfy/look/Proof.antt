@@ -8,8 +8,8 @@ use Rattle.wait.proofs.satisfy.look.Statement.{statement}
 use Rattle.wait.proofs.satisfy.look.Tie as tie
 use Rattle.wait.proofs.satisfy.look.Reads as reads
 use Rattle.wait.proofs.satisfy.look.Lts as lts
-use Rattle.signal.proofs.acquire.is_signaled.Reads as is-signaled-reads
-use Rattle.signal.proofs.acquire.thread_named.Reads as thread-named-reads
+use Rattle.acquire.proofs.is_signaled.Reads as is-signaled-reads
+use Rattle.acquire.proofs.thread_named.Reads as thread-named-reads
 use Rattle.wait.proofs.satisfy.is_gone.Reads as is-gone-reads
 use Rattle.wait.proofs.satisfy.object_in.Reads as object-in-reads
 use Rattle.wait.proofs.satisfy.wanted.Reads as wanted-reads

@@ -8,7 +8,7 @@ use Rattle.wait.proofs.satisfy.named_index.Statement.{statement}
 use Rattle.wait.proofs.satisfy.named_index.Tie as tie
 use Rattle.wait.proofs.satisfy.named_index.Reads as reads
 use Rattle.wait.proofs.satisfy.named_index.Lts as lts
-use Rattle.signal.proofs.acquire.thread_named.Reads as thread-named-reads
+use Rattle.acquire.proofs.thread_named.Reads as thread-named-reads
 use Rattle.wait.proofs.satisfy.object_in.Reads as object-in-reads
 use Rattle.wait.proofs.satisfy.thread_index.Reads as thread-index-reads
 

@@ -1,0 +1,2 @@
+-- The laws that the proofs of the guest calls cite.
+pub mod Handles

@@ -1,0 +1,30 @@
+use native.Mathlib.Omega.{arith}
+use Rattle.pick.proofs.Steps.{far}
+use borrow.Author.Needs.{needs}
+use Rattle.table.proofs.questions.is_running_at.Statement.{statement}
+use Rattle.table.proofs.questions.is_running_at.Tie as tie
+
+returns : tie.Need-returns
+returns c = rw (far (c .before .args .t1) (c .before .args .c) (omega (arith, c .before .good)))
+
+mul-t : tie.Need-mul-t
+mul-t c = search needs
+
+array-copy-out-t : tie.Need-array-copy-out-t
+array-copy-out-t c = search needs
+
+is-running-requires : tie.Need-is-running-requires
+is-running-requires c κs = search needs
+
+returns-2 : tie.Need-returns-2
+returns-2 c = search needs
+
+pub is-running-at-spec : {M : Type 1} → statement M
+is-running-at-spec =
+    tie.close
+    (tie.spec
+    returns
+    mul-t
+    array-copy-out-t
+    is-running-requires
+    returns-2)

@@ -1,0 +1,3 @@
+-- The laws that the proofs of `tries` cite.
+pub mod Places
+pub mod Turns

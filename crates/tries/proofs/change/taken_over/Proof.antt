@@ -1,0 +1,27 @@
+use mathlib.Core.Path.{_≡_, refl, ap, sym, _∙_}
+use Prim.Native.Nat.{_+_, _-_, _≤_, _<_}
+use native.Mathlib.Omega.{arith}
+use Rattle.laws.specs.Logic.{pick, _and_, _or_, and-no, and-yes}
+use borrow.Author.Tests.{lt-ltb, le-ltb, lt-leb, le-leb, eq-eqb, ne-eqb, not-true, not-false}
+use borrow.Author.Needs.{needs}
+use Rattle.tries.proofs.change.taken_over.Statement.{statement}
+use Rattle.tries.proofs.change.taken_over.Tie as tie
+use Rattle.tries.proofs.change.taken_over.Reads as reads
+use Rattle.tries.proofs.change.taken_over.Lts as lts
+use Rattle.acquire.proofs.over_after.Reads as over-after-reads
+use Rattle.tries.proofs.change.is_slot.Reads as is-slot-reads
+
+is-slot-requires : tie.Need-is-slot-requires
+is-slot-requires c κs = search needs
+
+over-after-requires : tie.Need-over-after-requires
+over-after-requires c κs = search needs
+
+returns : tie.Need-returns
+returns c = rw (c .over-after .ensures, sym (c .before .before .is-slot .ensures) ∙ c .before .if1 .taken)
+
+returns-2 : tie.Need-returns-2
+returns-2 c = rw (sym (c .before .is-slot .ensures) ∙ c .if1 .left)
+
+pub taken-over-spec : {M : Type 1} → statement M
+taken-over-spec = tie.close (tie.spec is-slot-requires over-after-requires returns returns-2)

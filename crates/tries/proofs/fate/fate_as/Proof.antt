@@ -1,0 +1,86 @@
+use mathlib.Core.Path.{_≡_, refl, ap, sym, _∙_}
+use Prim.Native.Nat.{_+_, _-_, _≤_, _<_}
+use native.Mathlib.Omega.{arith}
+use Rattle.laws.specs.Logic.{pick, _and_, _or_, and-no, and-yes}
+use borrow.Author.Tests.{lt-ltb, le-ltb, lt-leb, le-leb, eq-eqb, ne-eqb, not-true, not-false}
+use borrow.Author.Needs.{needs}
+use Rattle.tries.proofs.fate.fate_as.Statement.{statement}
+use Rattle.tries.proofs.fate.fate_as.Tie as tie
+use Rattle.tries.proofs.fate.fate_as.Reads as reads
+use Rattle.tries.proofs.fate.fate_as.Lts as lts
+use Rattle.tries.proofs.fate.fate_sync.Reads as fate-sync-reads
+use Rattle.tries.proofs.fate.late_or.Reads as late-or-reads
+use Rattle.tries.proofs.fate.slept_or.Reads as slept-or-reads
+
+enum-told : tie.Need-enum-told
+enum-told c = search needs
+
+enum-told-2 : tie.Need-enum-told-2
+enum-told-2 c = search needs
+
+enum-told-3 : tie.Need-enum-told-3
+enum-told-3 c = search needs
+
+enum-told-4 : tie.Need-enum-told-4
+enum-told-4 c = search needs
+
+slept-or-requires : tie.Need-slept-or-requires
+slept-or-requires c κs = search needs
+
+enum-told-5 : tie.Need-enum-told-5
+enum-told-5 c = search needs
+
+fate-sync-requires : tie.Need-fate-sync-requires
+fate-sync-requires c κs = search needs
+
+enum-told-6 : tie.Need-enum-told-6
+enum-told-6 c = search needs
+
+late-or-requires : tie.Need-late-or-requires
+late-or-requires c κs = search needs
+
+enum-told-7 : tie.Need-enum-told-7
+enum-told-7 c = search needs
+
+returns : tie.Need-returns
+returns c = search needs
+
+returns-2 : tie.Need-returns-2
+returns-2 c = search needs
+
+returns-3 : tie.Need-returns-3
+returns-3 c = search needs
+
+returns-4 : tie.Need-returns-4
+returns-4 c = search needs
+
+returns-5 : tie.Need-returns-5
+returns-5 c = rw (c .before .enum-told5 .given .1) (c .fate-sync .ensures)
+
+returns-6 : tie.Need-returns-6
+returns-6 c = search needs
+
+returns-7 : tie.Need-returns-7
+returns-7 c = search needs
+
+pub fate-as-spec : {M : Type 1} → statement M
+fate-as-spec =
+    tie.close
+    (tie.spec
+    enum-told
+    enum-told-2
+    enum-told-3
+    enum-told-4
+    slept-or-requires
+    enum-told-5
+    fate-sync-requires
+    enum-told-6
+    late-or-requires
+    enum-told-7
+    returns
+    returns-2
+    returns-3
+    returns-4
+    returns-5
+    returns-6
+    returns-7)

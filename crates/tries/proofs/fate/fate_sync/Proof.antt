@@ -1,0 +1,29 @@
+use mathlib.Core.Path.{_≡_, refl, ap, sym, _∙_}
+use Prim.Native.Nat.{_+_, _-_, _≤_, _<_}
+use native.Mathlib.Omega.{arith}
+use Rattle.laws.specs.Logic.{pick, _and_, _or_, and-no, and-yes}
+use borrow.Author.Tests.{lt-ltb, le-ltb, lt-leb, le-leb, eq-eqb, ne-eqb, not-true, not-false}
+use Rattle.tries.specs.Tries.{sync-is}
+use borrow.Author.Needs.{needs}
+use Rattle.tries.proofs.fate.fate_sync.Statement.{statement}
+use Rattle.tries.proofs.fate.fate_sync.Tie as tie
+use Rattle.tries.proofs.fate.fate_sync.Reads as reads
+use Rattle.tries.proofs.fate.fate_sync.Lts as lts
+use Rattle.tries.proofs.fate.given_or.Reads as given-or-reads
+use Rattle.tries.proofs.fate.late_or.Reads as late-or-reads
+use Rattle.tries.proofs.fate.or_fate.Reads as or-fate-reads
+
+given-or-requires : tie.Need-given-or-requires
+given-or-requires c κs = search needs
+
+late-or-requires : tie.Need-late-or-requires
+late-or-requires c κs = search needs
+
+or-fate-requires : tie.Need-or-fate-requires
+or-fate-requires c κs = search needs
+
+returns : tie.Need-returns
+returns c = rw (c .or-fate .ensures, c .before .late-or .ensures, c .before .before .given-or .ensures) (sync-is (c .before .before .before .args .found) (c .before .before .before .args .late))
+
+pub fate-sync-spec : {M : Type 1} → statement M
+fate-sync-spec = tie.close (tie.spec given-or-requires late-or-requires or-fate-requires returns)

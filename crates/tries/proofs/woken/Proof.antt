@@ -1,0 +1,29 @@
+use mathlib.Core.Path.{_≡_, refl, ap, sym, _∙_}
+use Prim.Native.Nat.{_+_, _-_, _≤_, _<_}
+use native.Mathlib.Omega.{arith}
+use Rattle.laws.specs.Logic.{pick, _or_, pick-yes, pick-no, or-yes, or-no}
+use borrow.Author.Tests.{lt-ltb, le-ltb, lt-leb, le-leb, eq-eqb, ne-eqb, not-true, not-false}
+use borrow.Author.Needs.{needs}
+use Rattle.tries.proofs.woken.Statement.{statement}
+use Rattle.tries.proofs.woken.Tie as tie
+use Rattle.tries.proofs.woken.Reads as reads
+use Rattle.tries.proofs.woken.Lts as lts
+use Rattle.thread.proofs.thread.without_wait.Reads as without-wait-reads
+use Rattle.thread.proofs.thread.with_result.Reads as with-result-reads
+use Rattle.thread.proofs.thread.with_status.Reads as with-status-reads
+
+without-wait-requires : tie.Need-without-wait-requires
+without-wait-requires c κs = search needs
+
+with-result-requires : tie.Need-with-result-requires
+with-result-requires c κs = search needs
+
+with-status-requires : tie.Need-with-status-requires
+with-status-requires c κs = search needs
+
+returns : tie.Need-returns
+returns c = c .with-status .ensures ∙ rw (c .before .with-result .ensures, c .before .before .without-wait .ensures)
+
+pub woken-spec : {M : Type 1} → statement M
+woken-spec =
+    tie.close (tie.spec without-wait-requires with-result-requires with-status-requires returns)

@@ -1,0 +1,3 @@
+-- What a try changes.
+pub mod Change
+pub mod Tries
