@@ -1,16 +1,17 @@
 -- One turn of each loop. Assumes nothing.
 use mathlib.Core.Path.{_≡_, refl, ap, sym, _∙_}
-use mathlib.Core.Bool.{Bool, true, false}
+use mathlib.Core.Bool.{Bool, true, false, not}
 use mathlib.Core.Logic.{_≢_}
 use mathlib.Core.List.{List, [], _∷_}
 use Prim.Native.Nat.{ℕ, zero, suc, _+_, _-_, _≤_, _<_}
 use native.Mathlib.Numerals.{add-one}
 use native.Mathlib.Omega.{arith}
 use lib.Dec.{eqb, leb, ltb}
-use borrow.Author.Tests.{leb-true, leb-false, ltb-true, ltb-false, ne-eqb}
+use borrow.Author.Tests.{leb-true, leb-false, ltb-true, ltb-false, le-ltb, ne-eqb}
 use lib.ListN.{length, getD, drop, drop-of-length-le}
 use lib.Seq.{drop-cons}
-use Rattle.laws.specs.Logic.{pick, pick-no, _and_, and-true, and-end, and-false, and-assoc}
+use Rattle.laws.specs.Logic.{pick, pick-no, _and_, and-true, and-no, and-yes, and-end, and-false, and-assoc}
+use Rattle.laws.specs.Count.{one?}
 use Rattle.laws.specs.Tally.{bump, tally}
 use Rattle.units.specs.declared.ObjectId.{ObjectId}
 use Rattle.types.specs.declared.thread.Thread.{Thread}
@@ -25,6 +26,16 @@ use Rattle.sound.specs.Tls.{heldIf, held, held-step, below?}
 use Rattle.sound.specs.Handles.{rising?, noEntries?}
 use Rattle.tally.specs.Lists.{slotOf, nameOf, handleNames}
 use Rattle.question.specs.Linear.{onePlace?, runs?, entry?}
+
+-- ---- faults counted: none so far, and what is still to look at
+pub fault-turn : (bad : ℕ) (p r : Bool) → eqb (bad + one? (not p)) 0 and r ≡ eqb bad 0 and (p and r)
+unfolding _and_
+fault-turn bad true r = let e : bad + 0 ≡ bad = omega arith in rw e
+fault-turn bad false r = and-no _ _ (ne-eqb (bad + 1) 0 (omega arith)) ∙ sym (and-false (eqb bad 0))
+
+pub fault-small : (p : Bool) → one? (not p) ≤ 1
+fault-small true = omega arith
+fault-small false = omega arith
 
 -- ---- a wait list
 module _ (l : List ObjectId) (n i : ℕ) (d : ObjectId) (h : i < length l) where
@@ -42,6 +53,13 @@ module _ (l : List ObjectId) (n i : ℕ) (d : ObjectId) (h : i < length l) where
 
   pub places-step : places? (n - i) (ids (drop i l)) ≡ onePlace? (ltb i n) (getD l i d .0) and places? (n - (i + 1)) (ids (drop (i + 1) l))
   places-step = places-as (ltb i n) refl
+
+  pub zeros-step : places? (0 - i) (ids (drop i l)) ≡ eqb (getD l i d .0) 0 and places? (0 - (i + 1)) (ids (drop (i + 1) l))
+  unfolding places? onePlace? zeros?
+  zeros-step =
+      let f : 0 - i ≡ 0 = omega arith in
+      let g : 0 - (i + 1) ≡ 0 = omega arith in
+      rw (f, g, drop-cons l i d h, add-one)
 
 places-none : (k : ℕ) → k ≢ 0 → places? k [] ≡ false
 unfolding places?

@@ -1,5 +1,6 @@
 // Objects: counts, the free chain, kept objects, and what objects name.
 use crate::chains;
+use crate::faults;
 use crate::records;
 use types::object::KObject;
 use types::thread::ThreadOption;
@@ -66,14 +67,13 @@ fn slots_ok<'a>(
 ) -> bool
     ensures { λ r. ⌜ r ≡ slots? (now (ks .entry)) (now (rs .entry)) (now (c .entry)) (now (m .entry)) 128 ⌝ }
 {
+    let mut bad: u32 = 0;
     let mut o: usize = 128;
     while 0 < o {
-        if !slot_ok(ks[o - 1], rs[o - 1], c[o], m[o]) {
-            return false;
-        }
+        bad += faults::fault(slot_ok(ks[o - 1], rs[o - 1], c[o], m[o]));
         o -= 1;
     }
-    true
+    bad == 0
 }
 
 fn kept_numbers_ok(b: &[u8]) -> bool

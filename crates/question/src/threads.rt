@@ -1,4 +1,5 @@
 // The thread table.
+use crate::faults;
 use block::thread::ThreadWords;
 use codec::Four;
 use types::thread::Thread;
@@ -30,19 +31,45 @@ fn one_place_ok(used: bool, o: ObjectId) -> bool
     x == 0
 }
 
-// n object numbers, then zeros.
-fn places_ok(n: u32, l: [ObjectId; 8]) -> bool
-    ensures { λ r. ⌜ r ≡ places? n (ids l) ⌝ }
+// Zeros.
+fn none_ok(l: [ObjectId; 8]) -> bool
+    ensures { λ r. ⌜ r ≡ places? 0 (ids l) ⌝ }
 {
-    let k = n as usize;
     let mut i: usize = 0;
     while i < 8 {
-        if !one_place_ok(i < k, l[i]) {
+        let o = l[i];
+        if o.0 != 0 {
             return false;
         }
         i += 1;
     }
-    k <= 8
+    true
+}
+
+// n object numbers, then zeros, of a list that is in use.
+fn some_ok(n: u32, l: [ObjectId; 8]) -> bool
+    ensures { λ r. ⌜ r ≡ places? n (ids l) ⌝ }
+{
+    let mut bad: u32 = 0;
+    let mut i: u32 = 0;
+    while i < 8 {
+        bad += faults::fault(one_place_ok(i < n, l[i as usize]));
+        i += 1;
+    }
+    if bad != 0 {
+        return false;
+    }
+    n <= 8
+}
+
+// n object numbers, then zeros. Most threads wait on nothing.
+fn places_ok(n: u32, l: [ObjectId; 8]) -> bool
+    ensures { λ r. ⌜ r ≡ places? n (ids l) ⌝ }
+{
+    if n == 0 {
+        return none_ok(l);
+    }
+    some_ok(n, l)
 }
 
 fn only_ok(s: ThreadStatus, n: u32) -> bool
