@@ -124,11 +124,19 @@ sharedOut? nx hs free =
 unfoldable pub chainsBy? : List ℕ → List ℕ → List ℕ → ℕ → List ℕ → ℕ → Bool
 chainsBy? nx ts ad n hs k = allTo k (λ o. chain? ts ad n (walk nx 64 (at hs o)))
 
+-- every chain ends and is fine
+unfoldable pub chainAll? : List ℕ → List ℕ → List ℕ → ℕ → List ℕ → Bool
+chainAll? nx ts ad n [] = true
+chainAll? nx ts ad n (h ∷ hs) = (ends? nx 64 h and chain? ts ad n (walk nx 64 h)) and chainAll? nx ts ad n hs
+
+unfoldable pub finePool? : List ℕ → List ℕ → List ℕ → ℕ → List ℕ → ℕ → Bool
+finePool? nx ts ad n hs free =
+    chainAll? nx ts ad n hs and (ends? nx 64 free and onceAll? (tally 129 (tallyAll 129 (replicate 129 0) (walkAll nx hs)) (walk nx 64 free)) 64)
+
 unfoldable pub recordsBy? : ℕ → List ℕ → List Waiter → ℕ → Bool
 recordsBy? n hs w free =
-    sharedOut? (waiterNexts w) hs free
-    and (chainsBy? (waiterNexts w) (waiterThreads w) (waiterAddresses w) n hs 128
-    and blanks? (waiterThreads w) (waiterAddresses w) (walk (waiterNexts w) 64 free))
+    finePool? (waiterNexts w) (waiterThreads w) (waiterAddresses w) n hs free
+    and blanks? (waiterThreads w) (waiterAddresses w) (walk (waiterNexts w) 64 free)
 
 -- ---- the clauses in two parts: threads, TLS slots and handles; objects, by the counts c of their names, and records
 unfoldable pub tables? : Kernel → Bool

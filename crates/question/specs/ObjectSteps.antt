@@ -22,7 +22,7 @@ use Rattle.sound.specs.View.{ids, noSlot, slotAt-pos}
 use Rattle.sound.specs.Objects.{upTo128}
 use Rattle.sound.specs.Records.{has?, chain?, blanks?}
 use Rattle.question.specs.Linear.{slot?, slots?}
-use Rattle.question.specs.LinearObjects.{keptThread?, indexed, keptThreads?, contentBy?, contentsBy?, endAll?, onceAll?, chainsBy?}
+use Rattle.question.specs.LinearObjects.{keptThread?, indexed, keptThreads?, contentBy?, contentsBy?, onceAll?, chainAll?}
 
 -- ---- cells and walks
 pub at-cell : (l : List ℕ) (r : ℕ) → r ≢ 0 → at l r ≡ getD l (r - 1) 0
@@ -169,14 +169,15 @@ unfolding keptThreads?
 kept-end ks us k t h = allTo-end _ t h
 
 -- ---- records
-module _ (nx hs : List ℕ) (i : ℕ) where
-  pub ends-more : (b : Bool) → i < length hs → b and endAll? nx (drop i hs) ≡ (b and ends? nx 64 (getD hs i 0)) and endAll? nx (drop (i + 1) hs)
-  unfolding endAll?
-  ends-more b h = rw (drop-cons hs i 0 h, add-one) (and-assoc b _ _)
+module _ (nx ts ad : List ℕ) (n : ℕ) (hs : List ℕ) (i : ℕ) where
+  pub chains-more : (b : Bool) → i < length hs
+      → b and chainAll? nx ts ad n (drop i hs) ≡ (b and (ends? nx 64 (getD hs i 0) and chain? ts ad n (walk nx 64 (getD hs i 0)))) and chainAll? nx ts ad n (drop (i + 1) hs)
+  unfolding chainAll?
+  chains-more b h = rw (drop-cons hs i 0 h, add-one) (and-assoc b _ _)
 
-  pub ends-none : (b : Bool) → length hs ≤ i → b and endAll? nx (drop i hs) ≡ b
-  unfolding endAll?
-  ends-none b h = rw (drop-of-length-le hs h) (and-end b)
+  pub chains-none : (b : Bool) → length hs ≤ i → b and chainAll? nx ts ad n (drop i hs) ≡ b
+  unfolding chainAll?
+  chains-none b h = rw (drop-of-length-le hs h) (and-end b)
 
 pub once-step : (m : List ℕ) (i : ℕ) → 0 < i → onceAll? m i ≡ eqb (getD m i 0) 1 and onceAll? m (i - 1)
 unfolding onceAll?
@@ -185,12 +186,3 @@ once-step m i h = allTo-step _ i h
 pub once-end : (m : List ℕ) (i : ℕ) → i ≤ 0 → onceAll? m i ≡ true
 unfolding onceAll?
 once-end m i h = allTo-end _ i h
-
-pub chains-step : (nx ts ad : List ℕ) (n : ℕ) (hs : List ℕ) (o : ℕ) → 0 < o
-    → chainsBy? nx ts ad n hs o ≡ chain? ts ad n (walk nx 64 (getD hs (o - 1) 0)) and chainsBy? nx ts ad n hs (o - 1)
-unfolding chainsBy?
-chains-step nx ts ad n hs o h = allTo-step _ o h ∙ rw (at-cell hs o (omega arith))
-
-pub chains-end : (nx ts ad : List ℕ) (n : ℕ) (hs : List ℕ) (o : ℕ) → o ≤ 0 → chainsBy? nx ts ad n hs o ≡ true
-unfolding chainsBy?
-chains-end nx ts ad n hs o h = allTo-end _ o h

@@ -1,7 +1,6 @@
 // Objects: counts, the free chain, kept objects, and what objects name.
 use crate::chains;
 use crate::faults;
-use crate::records;
 use types::object::KObject;
 use types::thread::ThreadOption;
 use types::thread::ThreadStatus;
@@ -294,7 +293,7 @@ pub fn columns(
         ns[i] = types::object::next_of(o);
         hs[i] = types::object::head_of(o);
         ts[i] = named_of(o);
-        ok = records::both(ok, content_ok(n, d, o));
+        ok = chains::both(ok, content_ok(n, d, o));
     }
     ok
 }

@@ -1,37 +1,39 @@
 // Records of arbiters: their chains share out all 64, none has a pair twice, and free ones are blank.
 use crate::chains;
+use crate::chains::both;
 ghost use mathlib.Core.Path.{_≡_};
 ghost use Prim.Native.Nat.{_+_, _*_, _<_, _≤_};
 ghost use lib.ListN.{length, take};
-ghost use Rattle.laws.specs.Logic.{_and_};
 ghost use Rattle.laws.specs.Tally.{tallyAll};
 ghost use Rattle.block.specs.Tables.{waitersIn};
 ghost use Rattle.sound.specs.View.{waiterNexts, waiterThreads, waiterAddresses};
-ghost use Rattle.question.specs.LinearObjects.{endAll?, walkAll, onceAll?, sharedOut?, chainsBy?, recordsBy?};
+ghost use Rattle.question.specs.LinearObjects.{walkAll, onceAll?, chainAll?, finePool?, recordsBy?};
 
-pub fn both(a: bool, b: bool) -> bool
-    ensures { λ r. ⌜ r ≡ (a and b) ⌝ }
-{
-    if !a {
-        return false;
-    }
-    b
-}
-
-// Whether every chain ends, and one more in m for each record that they have.
-fn mark_chains<'a>(nx: &'a [u32; 128], m: &mut [u32; 129], hs: &'a [u32; 128]) -> bool
+// Whether every chain ends and is fine, and one more in m for each record that they have.
+fn mark_chains<'a>(
+    nx: &'a [u32; 128],
+    ts: &'a [u32; 128],
+    ad: &'a [u32; 128],
+    m: &mut [u32; 129],
+    n: u32,
+    hs: &'a [u32; 128],
+) -> bool
     requires { ⌜ length (take 64 (now nx)) ≡ 64 ⌝ }
     requires { ⌜ length (now hs) ≡ 128 ⌝ }
-    ensures { λ r. ⌜ r ≡ endAll? (take 64 (now (nx .entry))) (now (hs .entry)) ⌝ }
+    ensures { λ r. ⌜ r ≡ chainAll? (take 64 (now (nx .entry))) (take 64 (now (ts .entry))) (take 64 (now (ad .entry))) n (now (hs .entry)) ⌝ }
     ensures { λ _. ⌜ now (m .exit) ≡ tallyAll 129 (now (m .entry)) (walkAll (take 64 (now (nx .entry))) (now (hs .entry))) ⌝ }
 {
-    let mut ended = true;
+    let mut seen = [0u32; 32];
+    let mut fine = true;
     let mut i: usize = 0;
     while i < 128 {
-        ended = both(ended, chains::mark_chain(nx, 64, m, hs[i], 64));
+        fine = both(
+            fine,
+            chains::chain_fine(nx, ts, ad, m, &mut seen, i as u32 + 1, n, hs[i]),
+        );
         i += 1;
     }
-    ended
+    fine
 }
 
 fn once_ok(m: &[u32; 129]) -> bool
@@ -47,41 +49,29 @@ fn once_ok(m: &[u32; 129]) -> bool
     true
 }
 
-// Whether the chains and the free one end, and have each record once.
-fn shared_out<'a>(nx: &'a [u32; 128], hs: &'a [u32; 128], free: u32) -> bool
+// Whether the chains are fine, the free one ends, and they have each record once.
+fn shared_out<'a>(
+    nx: &'a [u32; 128],
+    ts: &'a [u32; 128],
+    ad: &'a [u32; 128],
+    n: u32,
+    hs: &'a [u32; 128],
+    free: u32,
+) -> bool
     requires { ⌜ length (take 64 (now nx)) ≡ 64 ⌝ }
     requires { ⌜ length (now hs) ≡ 128 ⌝ }
-    ensures { λ r. ⌜ r ≡ sharedOut? (take 64 (now (nx .entry))) (now (hs .entry)) free ⌝ }
+    ensures { λ r. ⌜ r ≡ finePool? (take 64 (now (nx .entry))) (take 64 (now (ts .entry))) (take 64 (now (ad .entry))) n (now (hs .entry)) free ⌝ }
 {
     let mut m = [0u32; 129];
-    let ended = mark_chains(nx, &mut m, hs);
+    let fine = mark_chains(nx, ts, ad, &mut m, n, hs);
     let free_ended = chains::mark_chain(nx, 64, &mut m, free, 64);
-    if !ended {
+    if !fine {
         return false;
     }
     if !free_ended {
         return false;
     }
     once_ok(&m)
-}
-
-fn chains_ok<'a>(
-    nx: &'a [u32; 128],
-    ts: &'a [u32; 128],
-    ad: &'a [u32; 128],
-    n: u32,
-    hs: &'a [u32; 128],
-) -> bool
-    ensures { λ r. ⌜ r ≡ chainsBy? (take 64 (now (nx .entry))) (take 64 (now (ts .entry))) (take 64 (now (ad .entry))) n (now (hs .entry)) 128 ⌝ }
-{
-    let mut o: usize = 128;
-    while 0 < o {
-        if !chains::chain_ok(nx, ts, ad, n, hs[o - 1], 64) {
-            return false;
-        }
-        o -= 1;
-    }
-    true
 }
 
 // The columns of the 64 records: nexts, threads, addresses.
@@ -114,10 +104,7 @@ pub fn records_ok<'a>(n: u32, hs: &'a [u32; 128], b: &'a [u8], free: u32) -> boo
     let mut ts = [0u32; 128];
     let mut ad = [0u32; 128];
     columns(b, &mut nx, &mut ts, &mut ad);
-    if !shared_out(&nx, hs, free) {
-        return false;
-    }
-    if !chains_ok(&nx, &ts, &ad, n, hs) {
+    if !shared_out(&nx, &ts, &ad, n, hs, free) {
         return false;
     }
     chains::blanks_ok(&nx, &ts, &ad, free, 64)

@@ -16,45 +16,27 @@ columns-requires c κs = search needs
 
 shared-out-requires : tie.Need-shared-out-requires
 shared-out-requires c κs =
-    let s = c .before .before .before .before .before .before in
+    let s = c .before .before .before .before .before .before .before .before in
     let b = s .args .b .now in
-    (ap length (c .before .columns .ensures .0) ∙ length-map (waitersIn b) (λ (w : Waiter). w .next) ∙ length-decAll decWaiter 12 64 b 12416, s .pre .1)
+    (ap length (c .before .before .before .columns .ensures .0) ∙ length-map (waitersIn b) (λ (w : Waiter). w .next) ∙ length-decAll decWaiter 12 64 b 12416, s .pre .1)
 
 returns : tie.Need-returns
 unfolding recordsBy?
 returns c =
-    let k = c .before .before .before .columns .ensures in
-    sym (and-no _ _ (sym (rw (k .0) at (c .before .shared-out .ensures)) ∙ not-true _ (c .if1 .taken)))
-
-chains-ok-requires : tie.Need-chains-ok-requires
-chains-ok-requires c κs = search needs
-
-returns-2 : tie.Need-returns-2
-unfolding recordsBy?
-returns-2 c =
-    let k = c .before .before .before .before .before .before .before .before .columns .ensures in
-    sym (and-yes _ _ (sym (rw (k .0) at (c .before .before .before .before .before .before .shared-out .ensures)) ∙ not-false _ (c .before .before .before .before .before .if1 .left))
-    ∙ and-no _ _ (sym (rw (k .0, k .1 .0, k .1 .1) at (c .before .chains-ok .ensures)) ∙ not-true _ (c .if2 .taken)))
+    let k = c .before .before .before .before .before .columns .ensures in
+    sym (and-no _ _ (sym (rw (k .0, k .1 .0, k .1 .1) at (c .before .shared-out .ensures)) ∙ not-true _ (c .if1 .taken)))
 
 blanks-ok-requires : tie.Need-blanks-ok-requires
 blanks-ok-requires c κs = search needs
 
-returns-3 : tie.Need-returns-3
+returns-2 : tie.Need-returns-2
 unfolding recordsBy?
-returns-3 c =
-    let k = c .before .before .before .before .before .before .before .before .before .before .before .before .columns .ensures in
+returns-2 c =
+    let k = c .before .before .before .before .before .before .before .before .before .columns .ensures in
     rw (k .0, k .1 .0, k .1 .1) at (c .blanks-ok .ensures)
-    ∙ sym (and-yes _ _ (sym (rw (k .0) at (c .before .before .before .before .before .before .before .before .before .before .shared-out .ensures)) ∙ not-false _ (c .before .before .before .before .before .before .before .before .before .if1 .left))
-    ∙ and-yes _ _ (sym (rw (k .0, k .1 .0, k .1 .1) at (c .before .before .before .before .before .chains-ok .ensures)) ∙ not-false _ (c .before .before .before .before .if2 .left)))
+    ∙ sym (and-yes _ _ (sym (rw (k .0, k .1 .0, k .1 .1) at (c .before .before .before .before .before .shared-out .ensures)) ∙ not-false _ (c .before .before .before .before .if1 .left)))
 
 pub records-ok-spec : {M : Type 1} → statement M
 records-ok-spec =
     tie.close
-    (tie.spec
-    columns-requires
-    shared-out-requires
-    returns
-    chains-ok-requires
-    returns-2
-    blanks-ok-requires
-    returns-3)
+    (tie.spec columns-requires shared-out-requires returns blanks-ok-requires returns-2)

@@ -1,7 +1,7 @@
 use mathlib.Core.Path.{_≡_, sym, _∙_}
 use borrow.Author.Tests.{not-true, not-false}
 use Rattle.laws.specs.Logic.{and-no, and-yes}
-use Rattle.question.specs.LinearObjects.{sharedOut?}
+use Rattle.question.specs.LinearObjects.{finePool?}
 use borrow.Author.Needs.{needs}
 use Rattle.question.proofs.records.shared_out.Statement.{statement}
 use Rattle.question.proofs.records.shared_out.Tie as tie
@@ -13,11 +13,11 @@ mark-chain-requires : tie.Need-mark-chain-requires
 mark-chain-requires c κs = search needs
 
 returns : tie.Need-returns
-unfolding sharedOut?
+unfolding finePool?
 returns c = sym (and-no _ _ (sym (c .before .before .before .mark-chains .ensures .0) ∙ not-true _ (c .if1 .taken)))
 
 returns-2 : tie.Need-returns-2
-unfolding sharedOut?
+unfolding finePool?
 returns-2 c =
     sym (and-yes _ _ (sym (c .before .before .before .before .mark-chains .ensures .0) ∙ not-false _ (c .before .if1 .left))
     ∙ and-no _ _ (sym (c .before .before .mark-chain .ensures .0) ∙ not-true _ (c .if2 .taken)))
@@ -26,7 +26,7 @@ once-ok-requires : tie.Need-once-ok-requires
 once-ok-requires c κs = search needs
 
 returns-3 : tie.Need-returns-3
-unfolding sharedOut?
+unfolding finePool?
 returns-3 c =
     let k = c .before .before .before .before .before .before .mark-chains .ensures in
     let f = c .before .before .before .before .mark-chain .ensures in

@@ -1,7 +1,7 @@
 use borrow.Author.Tests.{not-true, not-false}
 use Rattle.laws.specs.Logic.{_and_}
-use Rattle.question.proofs.records.both.Statement.{statement}
-use Rattle.question.proofs.records.both.Tie as tie
+use Rattle.question.proofs.chains.both.Statement.{statement}
+use Rattle.question.proofs.chains.both.Tie as tie
 
 returns : tie.Need-returns
 unfolding _and_
