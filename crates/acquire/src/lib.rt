@@ -13,7 +13,7 @@ ghost use mathlib.Core.Path.{_≡_};
 ghost use Prim.Native.Nat.{_+_};
 ghost use lib.Dec.{ltb};
 ghost use lib.ListN.{take};
-ghost use Rattle.laws.specs.Logic.{pick, _and_, _or_};
+ghost use Rattle.laws.specs.Logic.{pick, _or_};
 ghost use Rattle.sound.specs.View.{ids};
 ghost use Rattle.object.specs.Slots.{withObject};
 ghost use Rattle.pass.specs.Signal as def;
@@ -268,16 +268,6 @@ pub fn acquire(s: ObjectStore, o: ObjectId, w: u32) -> ObjectStore
     q
 }
 
-// A number that some slot has.
-fn is_slot(k: u32) -> bool
-    ensures { λ r. ⌜ r ≡ (ltb 0 k and ltb k 129) ⌝ }
-{
-    if k == 0 {
-        return false;
-    }
-    k < 129
-}
-
 // The first n of the list, one after the other; in place, since a store handed over would be copied for each.
 pub fn acquire_list(s: ObjectStore, l: [ObjectId; 8], n: u32, w: u32) -> ObjectStore
     ensures { λ r. ⌜ r ≡ def.acquires s (take n (ids l)) w ⌝ }
@@ -290,7 +280,7 @@ pub fn acquire_list(s: ObjectStore, l: [ObjectId; 8], n: u32, w: u32) -> ObjectS
         }
         let o = l[i];
         let k = o.0;
-        if is_slot(k) {
+        if tally::place::is_slot(k) {
             let j = (k - 1) as usize;
             let old = q.slots[j];
             q.overflow = over_after(q.overflow, old);

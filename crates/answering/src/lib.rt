@@ -13,7 +13,7 @@ use types::object::ObjectStore;
 use units::Handle;
 use units::ObjectId;
 ghost use mathlib.Core.Path.{_≡_};
-ghost use Prim.Native.Nat.{_+_, _-_, _*_, _<_, _≤_};
+ghost use Prim.Native.Nat.{_+_, _-_, _*_, _<_};
 ghost use Rattle.sound.specs.View.{objectAt};
 ghost use Rattle.pass.specs.Asks.{pseudo};
 ghost use Rattle.svc.specs.Call as def;

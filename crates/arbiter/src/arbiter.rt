@@ -9,7 +9,6 @@ use svc::WordOption;
 use types::kernel::Kernel;
 use units::Handle;
 ghost use mathlib.Core.Path.{_≡_};
-ghost use Prim.Native.Nat.{_≤_};
 ghost use Rattle.svc.specs.Arbiter as def;
 
 // r0 handle, r1 address, r2 kind, r3 value, r4 and r5 nanoseconds; the word is that at the address, for kinds 1 to 4.

@@ -1,16 +1,16 @@
 -- Parts of a block that are left as they are. Assumes nothing.
-use mathlib.Core.Path.{_≡_, refl, ap, sym, _∙_}
+use mathlib.Core.Path.{_≡_, ap, sym, _∙_}
 use mathlib.Core.Bool.{true}
 use mathlib.Core.List.{List, _++_}
 use Prim.Native.Nat.{ℕ, _+_, _≤_}
 use native.Mathlib.Omega.{arith}
 use borrow.Author.Tests.{leb-true}
 use lib.Dec.{leb}
-use lib.ListN.{length, take, drop, replicate, length-append, length-drop, length-replicate, take-append-drop}
+use lib.ListN.{length, take, drop, replicate, length-drop, length-replicate, take-append-drop}
 use lib.Seq.{take-at, drop-at, take-all, length-take-le}
 use Rattle.codec.specs.Bytes.{over}
 use Rattle.codec.specs.Layout.{encAll}
-use Rattle.codec.proofs.Laws.{length-over, drop-over, part-over}
+use Rattle.codec.proofs.Laws.{drop-over, part-over}
 use Rattle.codec.proofs.Fit.{drop-next}
 use Rattle.types.specs.declared.kernel.Kernel.{Kernel}
 use Rattle.block.specs.Table.{encEntry, encWaiter, encId}

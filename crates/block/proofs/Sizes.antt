@@ -14,14 +14,12 @@ use Rattle.types.specs.declared.thread.Thread.{Thread}
 use Rattle.types.specs.declared.object.HandleEntry.{HandleEntry}
 use Rattle.types.specs.declared.object.Waiter.{Waiter}
 use Rattle.types.specs.declared.object.Slot.{Slot}
-use Rattle.types.specs.declared.kernel.Kernel.{Kernel}
-use Rattle.block.proofs.Row.{length-all}
 use Rattle.block.specs.Table.{encEntry, encWaiter, encId, encIds}
 use Rattle.block.specs.Slot.{encSlot}
 use Rattle.block.specs.declared.thread.ThreadWords.{ThreadWords}
 use Rattle.block.specs.Thread.{encWords, encThread}
 use Rattle.block.specs.declared.Head.{Head}
-use Rattle.block.specs.Block.{headWords, encHead, encBlock}
+use Rattle.block.specs.Block.{encHead}
 
 pub length-two : (v : Two) → length (twoBytes v) ≡ 8
 length-two v = simp (length-append, length-bytes)

@@ -1,5 +1,5 @@
 -- The block: a head, the threads, the object slots, the handles, the arbiter records, the kept thread objects, spare bytes.
-use mathlib.Core.Bool.{Bool, true, false, cond}
+use mathlib.Core.Bool.{false}
 use mathlib.Core.List.{List, [], _∷_, _++_}
 use Prim.Native.Nat.{ℕ}
 use mir.Val.{boolByte}

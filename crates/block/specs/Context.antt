@@ -1,8 +1,8 @@
 -- A context as 208 bytes: 16 registers, status word, 32 float registers, fpscr, fpexc, TLS slot.
 use mathlib.Core.List.{List, _++_}
 use Prim.Native.Nat.{ℕ}
-use Rattle.codec.specs.Bytes.{num, bytes, le}
-use Rattle.codec.specs.Layout.{encAll, decAll}
+use Rattle.codec.specs.Bytes.{bytes}
+use Rattle.codec.specs.Layout.{encAll}
 use Rattle.types.specs.declared.thread.ThreadContext.{ThreadContext}
 
 unfoldable pub encContext : ThreadContext → List ℕ

@@ -1,5 +1,5 @@
 -- An object slot as 40 bytes.
-use mathlib.Core.Bool.{Bool, true, false, cond}
+use mathlib.Core.Bool.{cond}
 use mathlib.Core.List.{List, [], _∷_, _++_}
 use Prim.Native.Nat.{ℕ}
 use mir.Val.{boolByte}

@@ -1,5 +1,4 @@
 -- A thread record as 160 bytes.
-use mathlib.Core.Bool.{Bool, true, false, cond}
 use mathlib.Core.List.{List, [], _∷_, _++_}
 use Prim.Native.Nat.{ℕ}
 use mir.Val.{boolByte}

@@ -2,7 +2,7 @@
 use codec::Two;
 use types::thread::ThreadContext;
 ghost use mathlib.Core.Path.{_≡_};
-ghost use Prim.Native.Nat.{ℕ, _*_, _<_};
+ghost use Prim.Native.Nat.{_*_, _<_};
 ghost use lib.ListN.{length};
 ghost use Rattle.codec.specs.Bytes.{over};
 ghost use Rattle.block.specs.Context.{encContext};

@@ -14,7 +14,6 @@ use types::thread::ThreadOption;
 use units::Handle;
 use units::ObjectId;
 ghost use mathlib.Core.Path.{_≡_};
-ghost use Prim.Native.Nat.{ℕ, _+_, _≤_};
 ghost use lib.ListN.{length};
 ghost use Rattle.block.specs.Block.{headWords, headAt, encHead, encBlock, decBlock};
 

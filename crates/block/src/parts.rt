@@ -7,7 +7,6 @@ use types::object::ObjectStore;
 use types::thread::Thread;
 use units::ObjectId;
 ghost use mathlib.Core.Path.{_≡_};
-ghost use Prim.Native.Nat.{ℕ};
 ghost use lib.ListN.{length};
 ghost use Rattle.block.specs.Block.{decBlock};
 ghost use Rattle.block.specs.Parts.{withParts};

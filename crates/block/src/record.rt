@@ -8,7 +8,7 @@ use types::object::Waiter;
 use types::thread::Thread;
 use units::ObjectId;
 ghost use mathlib.Core.Path.{_≡_};
-ghost use Prim.Native.Nat.{_+_, _*_, _<_, _≤_};
+ghost use Prim.Native.Nat.{_+_, _*_, _<_};
 ghost use lib.ListN.{length, take, drop};
 ghost use Rattle.block.specs.Table.{decEntry, decWaiter, decId};
 ghost use Rattle.block.specs.Thread.{decThread};

@@ -13,7 +13,7 @@ use types::thread::ThreadOption;
 use types::thread::TickOption;
 use units::Ticks;
 ghost use mathlib.Core.Path.{_≡_};
-ghost use Prim.Native.Nat.{ℕ, _+_, _≤_};
+ghost use Prim.Native.Nat.{_+_, _≤_};
 ghost use lib.ListN.{length};
 ghost use Rattle.codec.specs.Bytes.{over};
 ghost use Rattle.codec.specs.Layout.{decAs, encAll, decAll};

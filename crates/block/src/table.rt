@@ -5,7 +5,7 @@ use types::object::Waiter;
 use units::Handle;
 use units::ObjectId;
 ghost use mathlib.Core.Path.{_≡_};
-ghost use Prim.Native.Nat.{ℕ, _+_, _≤_};
+ghost use Prim.Native.Nat.{_+_, _≤_};
 ghost use lib.ListN.{length};
 ghost use Rattle.codec.specs.Bytes.{over};
 ghost use Rattle.codec.specs.Layout.{encAll, decAll};

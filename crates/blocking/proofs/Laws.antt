@@ -8,18 +8,15 @@ use native.Mathlib.Omega.{arith}
 use lib.Dec.{eqb}
 use lib.ListN.{length, List·getD-eq-default}
 use borrow.Author.Tests.{eq-eqb, ne-eqb}
-use Rattle.laws.specs.Logic.{pick, or-false}
+use Rattle.laws.specs.Logic.{pick}
 use Rattle.types.specs.declared.thread.Thread.{Thread}
 use Rattle.types.specs.declared.thread.ThreadOption.{ThreadOption}
 use Rattle.types.specs.declared.thread.ThreadOption.the-variants.{NoThread, SomeThread}
-use Rattle.types.specs.declared.object.HandleTable.{HandleTable}
 use Rattle.types.specs.declared.object.ObjectStore.{ObjectStore}
 use Rattle.types.specs.declared.kernel.Kernel.{Kernel}
 use Rattle.types.specs.Thread.{threadFlag, threadValue}
 use Rattle.sound.specs.View.{threadAt, noThread}
-use Rattle.object.specs.Handles.{objectOf}
 use Rattle.object.specs.Kept.{resolve}
-use Rattle.pass.specs.Asks.{pseudo}
 use Rattle.pass.specs.Timers.{timerDue, catchUpTimers}
 use Rattle.svc.specs.declared.Registers.{Registers}
 use Rattle.svc.specs.Call.{done, answers, withObjects, pair}

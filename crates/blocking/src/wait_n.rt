@@ -18,7 +18,7 @@ use units::Handle;
 use units::ObjectId;
 ghost use mathlib.Core.Path.{_≡_};
 ghost use mathlib.Core.Bool.{true, not};
-ghost use Prim.Native.Nat.{_+_, _-_, _<_, _≤_};
+ghost use Prim.Native.Nat.{_+_, _-_, _<_};
 ghost use lib.ListN.{length, take, getD};
 ghost use Rattle.laws.specs.Logic.{pick};
 ghost use Rattle.sound.specs.View.{ids};

@@ -15,14 +15,13 @@ use Rattle.types.specs.declared.object.HandleTable.{HandleTable}
 use Rattle.types.specs.declared.object.ObjectStore.{ObjectStore}
 use Rattle.types.specs.declared.kernel.Kernel.{Kernel}
 use Rattle.types.specs.Thread.{threadValue}
-use Rattle.sound.specs.View.{objectAt}
 use Rattle.sound.specs.Threads.{CurrentOk}
 use Rattle.sound.specs.Objects.{names, keptNames, keptAt, ContentOk}
 use Rattle.object.specs.Slots.{withKept, withProcess}
-use Rattle.object.specs.Store.{isFree, insert}
+use Rattle.object.specs.Store.{insert}
 use Rattle.object.specs.Handles.{objectOf}
 use Rattle.object.specs.Kept.{threadObject, processObject, ofCurrent, resolve}
-use Rattle.soundness.specs.Objects.{named-slot, named-live}
+use Rattle.soundness.specs.Objects.{named-slot}
 use Rattle.soundness.specs.Kept.{Found, CurrentIn, resolve-ok}
 use Rattle.soundness.specs.Records.{chains-same}
 use Rattle.soundness.specs.Each.{OfCurrent, each-resolve}

@@ -12,8 +12,6 @@ use Rattle.types.specs.declared.object.KObject.the-variants.{Free, Thread, Even
 use Rattle.types.specs.declared.kernel.Kernel.{Kernel}
 use Rattle.types.specs.Object.{kindNumber}
 use Rattle.sound.specs.View.{objectAt}
-use Rattle.object.specs.Handles.{objectOf}
-use Rattle.object.specs.Kept.{resolve}
 use Rattle.object.specs.Slots.{content}
 use Rattle.svc.specs.declared.Registers.{Registers}
 use Rattle.svc.specs.declared.Served.{Served}

@@ -12,7 +12,7 @@ use types::sync::Semaphore;
 use types::thread::ThreadOption;
 ghost use mathlib.Core.Path.{_≡_};
 ghost use mathlib.Core.Bool.{not};
-ghost use Prim.Native.Nat.{_+_, _-_, _%_, _<_, _≤_};
+ghost use Prim.Native.Nat.{_+_, _-_, _%_, _<_};
 ghost use lib.Dec.{eqb};
 ghost use Rattle.svc.specs.Sync as def;
 

@@ -13,7 +13,7 @@ use units::Handle;
 use units::Nanos;
 use units::Ticks;
 ghost use mathlib.Core.Path.{_≡_};
-ghost use Prim.Native.Nat.{_+_, _-_, _<_, _≤_};
+ghost use Prim.Native.Nat.{_-_, _<_};
 ghost use lib.ListN.{set};
 ghost use Rattle.sound.specs.View.{threadAt};
 ghost use Rattle.pass.specs.Schedule.{withRun};

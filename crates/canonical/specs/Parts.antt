@@ -73,7 +73,7 @@ as-byte : (n : ℕ) (t : Bool) → eqb n 1 ≡ t → n < 2 → n ≡ boolByte t
 as-byte n true e h = eqb-true n 1 e
 as-byte n false e h = let f = eqb-false n 1 e in omega arith
 
-flag-test : (n : ℕ) → eqb n (boolByte (eqb n 1)) ≡ ltb n 2
+pub flag-test : (n : ℕ) → eqb n (boolByte (eqb n 1)) ≡ ltb n 2
 flag-test n =
     t-same _ _ (t-as {P = n ≡ boolByte (eqb n 1)} {Q = n < 2} (λ e. let h = byte-small (eqb n 1) in omega arith) (as-byte n (eqb n 1) refl) (t-eq n (boolByte (eqb n 1)))) (t-lt n 2)
 

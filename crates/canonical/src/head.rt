@@ -6,7 +6,7 @@ ghost use Rattle.block.specs.Block.{headWords, encHead, decBlock};
 ghost use Rattle.canonical.specs.Parts.{option?};
 
 // A flag, and a value that is 0 if there is none.
-fn same_option(flag: u32, value: u32) -> bool
+pub fn same_option(flag: u32, value: u32) -> bool
     ensures { λ r. ⌜ r ≡ option? flag value ⌝ }
 {
     let o = types::thread::thread_option(flag, value);

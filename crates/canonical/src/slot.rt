@@ -1,31 +1,120 @@
 // The object slots.
+use crate::head;
 use block::slot::ObjectWords;
 ghost use mathlib.Core.Path.{_≡_};
+ghost use mathlib.Core.List.{[], _∷_};
 ghost use lib.ListN.{length};
+ghost use Rattle.laws.specs.Logic.{_and_};
 ghost use Rattle.codec.specs.Bytes.{same};
-ghost use Rattle.block.specs.Slot.{encSlot, decSlot};
+ghost use Rattle.block.specs.Slot.{objectWords, objectOf, encSlot, decSlot};
 ghost use Rattle.canonical.specs.Rows.{rows?};
-ghost use Rattle.canonical.specs.Parts.{objectList};
+ghost use Rattle.canonical.specs.Parts.{objectList, option?};
+ghost use Rattle.canonical.specs.Kinds.{reset?, tick?};
 
-fn same_object(x: ObjectWords, y: ObjectWords) -> bool
-    ensures { λ r. ⌜ r ≡ same (objectList x) (objectList y) ⌝ }
+// Neither of the two last words.
+fn no_times(w: ObjectWords) -> bool
+    ensures { λ r. ⌜ r ≡ same (w .x ∷ w .y ∷ []) (0 ∷ 0 ∷ []) ⌝ }
 {
-    if x.kind != y.kind {
+    if w.x != 0 {
         return false;
     }
-    if x.a != y.a {
+    w.y == 0
+}
+
+// Nothing after two words.
+fn two_words(w: ObjectWords) -> bool
+    ensures { λ r. ⌜ r ≡ same (w .c ∷ w .x ∷ w .y ∷ []) (0 ∷ 0 ∷ 0 ∷ []) ⌝ }
+{
+    if w.c != 0 {
         return false;
     }
-    if x.b != y.b {
+    no_times(w)
+}
+
+// Nothing after one word.
+fn one_word(w: ObjectWords) -> bool
+    ensures { λ r. ⌜ r ≡ same (w .b ∷ w .c ∷ w .x ∷ w .y ∷ []) (0 ∷ 0 ∷ 0 ∷ 0 ∷ []) ⌝ }
+{
+    if w.b != 0 {
         return false;
     }
-    if x.c != y.c {
+    two_words(w)
+}
+
+fn no_word(w: ObjectWords) -> bool
+    ensures { λ r. ⌜ r ≡ same (w .a ∷ w .b ∷ w .c ∷ w .x ∷ w .y ∷ []) (0 ∷ 0 ∷ 0 ∷ 0 ∷ 0 ∷ []) ⌝ }
+{
+    if w.a != 0 {
         return false;
     }
-    if x.x != y.x {
+    one_word(w)
+}
+
+// A reset type, and a mark.
+fn reset_same(a: u32, b: u32) -> bool
+    ensures { λ r. ⌜ r ≡ reset? a b ⌝ }
+{
+    if 2 < a {
         return false;
     }
-    x.y == y.y
+    b < 2
+}
+
+// A flag, and a tick that is 0 if there is none.
+fn tick_same(flag: u32, value: u64) -> bool
+    ensures { λ r. ⌜ r ≡ tick? flag value ⌝ }
+{
+    let o = types::thread::tick_option(flag, value);
+    if flag != types::thread::tick_flag(o) {
+        return false;
+    }
+    value == types::thread::tick_value(o)
+}
+
+fn event_same(w: ObjectWords) -> bool
+    ensures { λ r. ⌜ r ≡ (reset? (w .a) (w .b) and same (w .c ∷ w .x ∷ w .y ∷ []) (0 ∷ 0 ∷ 0 ∷ [])) ⌝ }
+{
+    if !reset_same(w.a, w.b) {
+        return false;
+    }
+    two_words(w)
+}
+
+fn mutex_same(w: ObjectWords) -> bool
+    ensures { λ r. ⌜ r ≡ (option? (w .a) (w .b) and same (w .x ∷ w .y ∷ []) (0 ∷ 0 ∷ [])) ⌝ }
+{
+    if !head::same_option(w.a, w.b) {
+        return false;
+    }
+    no_times(w)
+}
+
+fn timer_same(w: ObjectWords) -> bool
+    ensures { λ r. ⌜ r ≡ (reset? (w .a) (w .b) and tick? (w .c) (w .x)) ⌝ }
+{
+    if !reset_same(w.a, w.b) {
+        return false;
+    }
+    tick_same(w.c, w.x)
+}
+
+// Each kind by the words that it has: an object made from them and taken apart again would be compared word by word.
+fn object_same(w: ObjectWords) -> bool
+    ensures { λ r. ⌜ r ≡ same (objectList w) (objectList (objectWords (objectOf w))) ⌝ }
+{
+    let kind = w.kind;
+    match kind {
+        0 => one_word(w),
+        1 => one_word(w),
+        2 => event_same(w),
+        3 => mutex_same(w),
+        4 => two_words(w),
+        5 => timer_same(w),
+        6 => one_word(w),
+        7 => no_word(w),
+        8 => no_word(w),
+        _ => false,
+    }
 }
 
 // Any count is the encoding of itself.
@@ -34,8 +123,7 @@ fn slot_same(s: &[u8]) -> bool
     ensures { λ r. ⌜ r ≡ same (now (s .entry)) (encSlot (decSlot (now (s .entry)))) ⌝ }
 {
     let w = block::slot::get_words(s);
-    let again = block::slot::object_words(block::slot::object_of(w));
-    if !same_object(w, again) {
+    if !object_same(w) {
         return false;
     }
     codec::get32(s, 8) < 2

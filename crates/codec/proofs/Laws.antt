@@ -3,11 +3,11 @@ use mathlib.Core.Path.{_≡_, refl, sym, ap, _∙_}
 use mathlib.Core.List.{List, [], _∷_, _++_, append-assoc, append-nil}
 use Prim.Native.Nat.{ℕ, zero, suc, _+_, _*_, _/_, _%_, _^_, _≤_, _<_}
 use lib.Arith.{mod-mul}
-use native.Mathlib.Nat.{suc-add, zero-add, div-one, div-div-eq-div-mul, add-zero, add-suc, add-assoc, mul-comm, mul-assoc, mul-add, pow-suc, pow-succ', pow-zero, div-lt-iff-lt-mul}
+use native.Mathlib.Nat.{suc-add, zero-add, div-one, div-div-eq-div-mul, add-zero, add-assoc, mul-assoc, pow-suc, pow-succ', pow-zero, div-lt-iff-lt-mul}
 use native.Mathlib.Numerals.{add-one}
 use native.Mathlib.Omega.{arith}
 use lib.ListN.{length, take, drop, getD, set, length-append, length-take, length-drop, length-set, take-append-drop, drop-of-length-le}
-use lib.Seq.{drop-cons, take-suc, set-split, take-at, drop-at, take-append-le, drop-append-le, drop-drop, take-add, take-all, take-suc-set, drop-set-lt}
+use lib.Seq.{drop-cons, take-at, drop-at, drop-drop, take-add, take-suc-set, drop-set-lt}
 use lib.Seq.{length-take-le}
 use Rattle.codec.specs.Bytes.{num, le, bytes, over}
 

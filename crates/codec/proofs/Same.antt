@@ -12,7 +12,7 @@ use lib.Seq.{length-take-le, drop-drop, take-take}
 use borrow.Author.Tests.{eqb-true, eq-eqb}
 use Rattle.laws.specs.Logic.{_and_, and-true, true-and, and-no, and-yes, and-assoc, false-true}
 use Rattle.laws.specs.Test.{Test, t-as, t-same}
-use Rattle.codec.specs.Bytes.{num, bytes, le, same}
+use Rattle.codec.specs.Bytes.{num, le, same}
 use Rattle.codec.specs.Layout.{total, encAs, decAs}
 use Rattle.codec.proofs.Laws.{bytes-num}
 use Rattle.codec.proofs.Back.{Fit, Bytes, bytes-part, decAs-drop, decAs-enc, encAs-dec}

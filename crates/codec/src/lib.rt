@@ -1,10 +1,10 @@
 // Little-endian numbers in lent bytes: reading and writing words, groups of words and arrays of words.
 ghost use mathlib.Core.Path.{_≡_};
-ghost use mathlib.Core.List.{[], _∷_, _++_};
-ghost use Prim.Native.Nat.{ℕ, _+_, _*_, _<_, _≤_, _/_, _%_};
+ghost use mathlib.Core.List.{[], _∷_};
+ghost use Prim.Native.Nat.{_+_, _*_, _<_, _≤_, _/_, _%_};
 ghost use lib.ListN.{length, replicate, take, drop};
 ghost use Rattle.codec.specs.Bytes.{le, num, over, bytes, same};
-ghost use Rattle.codec.specs.Layout.{decAll, encAll};
+ghost use Rattle.codec.specs.Layout.{encAll};
 ghost use Rattle.codec.specs.Groups.{twoAt, twoBytes, fourAt, fourBytes};
 
 // Two words, one after the other.

@@ -21,12 +21,11 @@ use Rattle.types.specs.declared.object.ObjectStore.{ObjectStore}
 use Rattle.types.specs.declared.kernel.Kernel.{Kernel}
 use Rattle.types.specs.Thread.{isBlocked, isDead}
 use Rattle.sound.specs.View.{threadAt}
-use Rattle.soundness.specs.Whole.{Parts}
 use Rattle.kernel.specs.NextEvent.{contains}
 use Rattle.passing.specs.Signal.{live-in}
 use Rattle.pass.specs.Pick.{isRunning}
 use Rattle.pass.specs.Timers.{saturatingAdd}
-use Rattle.timing.specs.Wait.{waitOf, Blocked, blocked-in}
+use Rattle.timing.specs.Wait.{waitOf, Blocked}
 use Rattle.timing.specs.Parks.{saturating-is}
 use Rattle.svc.specs.Call.{withObjects, negative}
 use Rattle.svc.specs.Dispatch.{runsAs, runs?}

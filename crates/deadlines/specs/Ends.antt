@@ -1,14 +1,13 @@
 -- A guest call and a thread that waits: its wait goes on, or the call wakes it. And when the wait that a call begins runs out.
-use mathlib.Core.Path.{_≡_, refl, ap, _∙_}
+use mathlib.Core.Path.{_≡_, ap}
 use mathlib.Core.Bool.{Bool, true, false}
-use mathlib.Core.Logic.{_≢_}
 use mathlib.Core.List.{List, []}
 use Prim.Native.Nat.{ℕ}
 use lib.Dec.{eqb}
 use borrow.Author.Tests.{eqb-true}
 use Rattle.laws.specs.Logic.{pick, false-true}
 use Rattle.types.specs.declared.thread.ThreadOption.the-variants.{SomeThread}
-use Rattle.types.specs.declared.thread.ThreadStatus.the-variants.{Dead, Ready}
+use Rattle.types.specs.declared.thread.ThreadStatus.the-variants.{Ready}
 use Rattle.types.specs.declared.kernel.Kernel.{Kernel}
 use Rattle.types.specs.Sync.{arbitrationFromRaw}
 use Rattle.sound.specs.View.{threadAt}
@@ -17,15 +16,13 @@ use Rattle.kernel.specs.NextEvent.{contains}
 use Rattle.pass.specs.Pick.{isRunnable}
 use Rattle.timing.specs.Wait.{waitOf, Blocked}
 use Rattle.svc.specs.declared.Registers.{Registers}
-use Rattle.svc.specs.declared.Served.{Served}
 use Rattle.svc.specs.Threads.{exitThread}
 use Rattle.svc.specs.Arbiter.{parkedAt}
 use Rattle.svc.specs.Dispatch.{runs?, call}
 use Rattle.deadlines.specs.Effect.{blocked-other, runs-current, Timed, runsOut}
-use Rattle.deadlines.specs.Threads.{exit-other, exit-dead}
 use Rattle.demand.specs.Words.{wokenIf, wakes, timedWait?, waitNanos}
-use Rattle.deadlines.specs.Arbiter.{if-parked, parked-blocked}
-use Rattle.deadlines.specs.Calls.{parks?, call-effect}
+use Rattle.deadlines.specs.Arbiter.{if-parked}
+use Rattle.deadlines.specs.Calls.{call-effect}
 
 -- ---- whom a call wakes: only threads that are parked at the address in r1, so blocked ones
 pub wakes-parked : (number : ℕ) (k : Kernel) (r : Registers) (w : ℕ) → contains (wakes number k r) w ≡ true → parkedAt (threadAt (k .threads) w) (r .r1) ≡ true

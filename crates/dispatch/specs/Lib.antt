@@ -1,5 +1,2 @@
--- The calls in four ranges of numbers, which of them writes a word, and the place of a thread that one makes.
+-- The calls in four ranges of numbers.
 pub mod Parts
-pub mod Outcome
-pub mod Word
-pub mod Made

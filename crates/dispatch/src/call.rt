@@ -1,48 +1,14 @@
-// The calls by number (`dispatch` of svc.rs), in four ranges, so that the state is handed on once. The state that a call
-// leaves goes into the block where the call ends: by value it would be copied on each way up.
-use lent::questions;
+// The calls by number (`dispatch` of svc.rs), in four ranges, so that the state is handed on once.
+use outcome::Outcome;
+use outcome::finish;
 use svc::Registers;
-use svc::Served;
-use svc::WordOption;
 use types::kernel::Kernel;
 ghost use mathlib.Core.Path.{_≡_};
-ghost use Prim.Native.Nat.{_<_, _≤_};
+ghost use Prim.Native.Nat.{_<_};
 ghost use lib.ListN.{length, getD, take};
 ghost use Rattle.svc.specs.Dispatch as def;
 ghost use Rattle.dispatch.specs.Parts.{threadPart, lockPart, signalPart};
-ghost use Rattle.dispatch.specs.Outcome.{outcome, left};
-
-// What a call leaves beside the state; found is what questions 7 and 8 found, 0 for nothing.
-pub struct Outcome {
-    pub found: u32,
-    pub answer: u32,
-    pub r0: WordOption,
-    pub r1: WordOption,
-    pub word: WordOption,
-}
-
-// With a finding the block stays as it is.
-fn finish(block: &mut [u8], s: Served) -> Outcome
-    requires { ⌜ length (now block) ≡ 16384 ⌝ }
-    ensures { λ o. ⌜ o ≡ outcome s ⌝ }
-    ensures { λ _. ⌜ now (block .exit) ≡ left s (now (block .entry)) ⌝ }
-{
-    let after = s.kernel;
-    let r0 = s.r0;
-    let r1 = s.r1;
-    let word = s.word;
-    let found = questions::first_finding(after);
-    if found == 0 {
-        block::encode(block, after);
-    }
-    Outcome {
-        found: found,
-        answer: s.answer,
-        r0: r0,
-        r1: r1,
-        word: word,
-    }
-}
+ghost use Rattle.outcome.specs.Outcome.{outcome, left};
 
 // Numbers below 0x13.
 fn thread_part(block: &mut [u8], number: u32, k: Kernel, r: Registers, tick: u64) -> Outcome

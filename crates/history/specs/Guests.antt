@@ -18,7 +18,7 @@ use Rattle.soundness.specs.Fits.{Word}
 use Rattle.soundness.specs.Slots.{pick-both}
 use Rattle.svc.specs.declared.Registers.{Registers}
 use Rattle.svc.specs.Table.{rowOf, known?, bit, masked}
-use Rattle.svc.specs.Dispatch.{wordsRead, given, runs?, tooMany?, outside?, refusal, call}
+use Rattle.svc.specs.Dispatch.{wordsRead, given, runs?, tooMany?, outside?, refusal}
 use Rattle.svc.specs.Collect as svc
 use Rattle.calling.specs.Call.{RegistersFit, Clear, Accepted}
 use Rattle.calling.specs.Collect.{collect-sound}

@@ -11,7 +11,7 @@ ghost use Rattle.lent.specs.Guest as guest;
 pub extern "C" fn kernel_fresh_start(block: &mut [u8], bank: &mut [u8], status_word: u32) -> u32
     ensures { λ r. ⌜ back r (lent (now (block .exit)) (now (bank .exit)) [] [] []) ≡ def.freshStart «status_word» (lent (now (block .entry)) (now (bank .entry)) [] [] []) ⌝ }
 {
-    making::fresh_start::operate(block, bank, status_word)
+    fresh_start::operate(block, bank, status_word)
 }
 
 // A thread that is ready to start at entry.
@@ -28,7 +28,7 @@ pub extern "C" fn kernel_create_thread(
 ) -> u32
     ensures { λ r. ⌜ back r (lent (now (block .exit)) (now (bank .exit)) [] [] (now (answer .exit))) ≡ def.createThread entry «stack_top» arg priority «processor_id» (lent (now (block .entry)) (now (bank .entry)) [] [] (now (answer .entry))) ⌝ }
 {
-    making::create_thread::operate(
+    create_thread::operate(
         block,
         bank,
         answer,
@@ -51,7 +51,7 @@ pub extern "C" fn kernel_schedule(
 ) -> u32
     ensures { λ r. ⌜ back r (lent (now (block .exit)) (now (bank .exit)) (now (processor .exit)) [] (now (answer .exit))) ≡ def.schedule tick (lent (now (block .entry)) (now (bank .entry)) (now (processor .entry)) [] (now (answer .entry))) ⌝ }
 {
-    running::schedule::operate(block, bank, processor, answer, tick)
+    schedule::operate(block, bank, processor, answer, tick)
 }
 
 // The earliest tick that a blocked thread or a timer wants a pass at.
@@ -59,7 +59,7 @@ pub extern "C" fn kernel_schedule(
 pub extern "C" fn kernel_next_event(block: &[u8], answer: &mut [u8]) -> u32
     ensures { λ r. ⌜ back r (lent (now (block .entry)) [] [] [] (now (answer .exit))) ≡ def.nextEvent (lent (now (block .entry)) [] [] [] (now (answer .entry))) ⌝ }
 {
-    asking::next_event::operate(block, answer)
+    next_event::operate(block, answer)
 }
 
 // The eight object numbers, unused places 0, and the index that the wait gives.
@@ -73,7 +73,7 @@ pub extern "C" fn kernel_satisfied_now(
 ) -> u32
     ensures { λ r. ⌜ back r (lent (now (block .entry)) [] [] [] (now (answer .exit))) ≡ def.satisfiedNow (now (handles .entry)) «wait_all» tick (lent (now (block .entry)) [] [] [] (now (answer .entry))) ⌝ }
 {
-    asking::satisfied_now::operate(block, handles, answer, wait_all, tick)
+    satisfied_now::operate(block, handles, answer, wait_all, tick)
 }
 
 // The mutex that the handle lets go of, and whether that frees it, if no pass is needed after it.
@@ -86,7 +86,7 @@ pub extern "C" fn kernel_quiet_release(
 ) -> u32
     ensures { λ r. ⌜ back r (lent (now (block .entry)) [] [] [] (now (answer .exit))) ≡ def.quietRelease handle tick (lent (now (block .entry)) [] [] [] (now (answer .entry))) ⌝ }
 {
-    asking::quiet_release::operate(block, answer, handle, tick)
+    quiet_release::operate(block, answer, handle, tick)
 }
 
 // A thread ends at the host's wish.
@@ -94,7 +94,7 @@ pub extern "C" fn kernel_quiet_release(
 pub extern "C" fn kernel_end_thread(block: &mut [u8], id: u32) -> u32
     ensures { λ r. ⌜ back r (lent (now (block .exit)) [] [] [] []) ≡ def.endThread id (lent (now (block .entry)) [] [] [] []) ⌝ }
 {
-    making::end_thread::operate(block, id)
+    end_thread::operate(block, id)
 }
 
 // A guest call of the current thread; the number is the call's answer, 0, 16, 17 or 18.
@@ -110,7 +110,7 @@ pub extern "C" fn kernel_dispatch(
 ) -> u32
     ensures { λ r. ⌜ back r (lent (now (block .exit)) (now (bank .exit)) (now (processor .exit)) (now (window .exit)) []) ≡ guest.dispatch «window_base» number tick (lent (now (block .entry)) (now (bank .entry)) (now (processor .entry)) (now (window .entry)) []) ⌝ }
 {
-    serving::guest_call::operate(block, bank, processor, window, window_base, number, tick)
+    guest_call::operate(block, bank, processor, window, window_base, number, tick)
 }
 
 // The current thread's recorded result of a wait, handed out once.
@@ -118,5 +118,5 @@ pub extern "C" fn kernel_dispatch(
 pub extern "C" fn kernel_collect(block: &mut [u8], answer: &mut [u8]) -> u32
     ensures { λ r. ⌜ back r (lent (now (block .exit)) [] [] [] (now (answer .exit))) ≡ guest.collect (lent (now (block .entry)) [] [] [] (now (answer .entry))) ⌝ }
 {
-    collecting::operate(block, answer)
+    collect::operate(block, answer)
 }

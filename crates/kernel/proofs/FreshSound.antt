@@ -1,7 +1,6 @@
 -- A kernel as it starts is sound. Assumes nothing.
 use mathlib.Core.Path.{_≡_, refl, ap}
 use mathlib.Core.Bool.{Bool, true, false}
-use mathlib.Core.List.{List, [], _∷_}
 use Prim.Native.Nat.{ℕ, zero, suc, _+_, _^_, _≤_, _<_}
 use native.Mathlib.Omega.{arith}
 use lib.Dec.{eqb}
@@ -14,9 +13,6 @@ use Rattle.laws.specs.Walk.{walk, ends?}
 use Rattle.laws.specs.PoolTest.{walks, end?, pool?}
 use Rattle.laws.specs.StoreTest.{store?, slot?}
 use Rattle.codec.proofs.Fit.{_&_}
-use Rattle.units.specs.declared.ObjectId.{ObjectId}
-use Rattle.types.specs.declared.object.HandleEntry.{HandleEntry}
-use Rattle.types.specs.declared.kernel.Kernel.{Kernel}
 use Rattle.block.proofs.Fits.{StateFits, ThreadFits, SlotFits, EntryFits, WaiterFits, IdFits}
 use Rattle.sound.specs.View.{slotAt}
 use Rattle.sound.specs.Threads.{zeros?, places?, thread?, blank?, place?, threads?}

@@ -17,9 +17,8 @@ use units::Handle;
 use units::ObjectId;
 use units::Ticks;
 ghost use mathlib.Core.Path.{_≡_};
-ghost use Prim.Native.Nat.{_+_, _-_, _<_, _≤_};
+ghost use Prim.Native.Nat.{_+_, _-_, _<_};
 ghost use lib.Dec.{eqb};
-ghost use lib.ListN.{length};
 ghost use Rattle.laws.specs.Logic.{pick};
 ghost use Rattle.kernel.specs.Fresh.{freeSlot, freeWaiter, freeSlots, freeWaiters, blankThread, freshObjects, freshHandles, fresh};
 

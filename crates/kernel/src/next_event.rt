@@ -8,13 +8,11 @@ use types::thread::TickOption;
 use units::ObjectId;
 use units::Ticks;
 ghost use mathlib.Core.Path.{_≡_};
-ghost use Prim.Native.Nat.{_+_, _-_, _<_, _≤_, suc};
-ghost use lib.Dec.{ltb};
-ghost use lib.ListN.{length, replicate, getD};
+ghost use Prim.Native.Nat.{_+_, _-_, _<_, _≤_};
+ghost use lib.ListN.{length};
 ghost use Rattle.laws.specs.All.{All};
 ghost use Rattle.laws.specs.Tally.{tally, tallyAll};
 ghost use Rattle.types.specs.Thread.{isBlocked};
-ghost use Rattle.tally.specs.Lists.{Eight};
 ghost use Rattle.kernel.specs.NextEvent.{earlier, wakeAfter, nextWake, anyBlocked, dueOf, dueAfter, nextEvent};
 ghost use Rattle.kernel.specs.Marks.{listIf, listsIf, dueMarked, option};
 

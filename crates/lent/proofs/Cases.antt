@@ -1,5 +1,5 @@
 -- An operation by the code's cases, one law a case for every operation of a sort. Assumes nothing.
-use mathlib.Core.Path.{_≡_, refl, ap, sym}
+use mathlib.Core.Path.{_≡_, refl, ap}
 use mathlib.Core.Bool.{Bool, true, false}
 use mathlib.Core.List.{List}
 use Prim.Native.Nat.{ℕ, _*_, _≤_, _<_}
@@ -8,7 +8,7 @@ use lib.Dec.{leb}
 use lib.ListN.{length, take, drop, length-drop, List·getD-eq-default}
 use lib.Seq.{length-take-le}
 use borrow.Author.Tests.{eq-eqb, ne-eqb, leb-false}
-use Rattle.laws.specs.Logic.{pick, _and_, _or_, or-false}
+use Rattle.laws.specs.Logic.{pick, _or_, or-false}
 use Rattle.types.specs.declared.thread.Thread.{Thread}
 use Rattle.types.specs.declared.kernel.Kernel.{Kernel}
 use Rattle.types.specs.Thread.{isDead}

@@ -9,7 +9,7 @@ use lib.Dec.{eqb}
 use lib.ListN.{length, take, drop, length-drop}
 use lib.Seq.{drop-drop, length-take-le}
 use Rattle.laws.specs.Logic.{pick, _and_}
-use Rattle.codec.specs.Bytes.{bytes, le, over}
+use Rattle.codec.specs.Bytes.{bytes, le}
 use Rattle.codec.proofs.Laws.{bytes-num}
 use Rattle.codec.proofs.Back.{Bytes, bytes-part}
 use Rattle.types.specs.declared.kernel.Kernel.{Kernel}

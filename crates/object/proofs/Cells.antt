@@ -9,7 +9,7 @@ use native.Mathlib.Omega.{arith}
 use lib.ListN.{length, getD, set, take}
 use lib.Seq.{set-out, take-all}
 use Rattle.laws.specs.Count.{at, put}
-use Rattle.laws.specs.Walk.{walk, walk-nil, walk-out}
+use Rattle.laws.specs.Walk.{walk-nil, walk-out}
 use Rattle.types.specs.declared.object.Waiter.{Waiter}
 use Rattle.sound.specs.View.{waiterNexts}
 use Rattle.object.specs.declared.waiters.Links.{Links}

@@ -9,7 +9,7 @@ use native.Mathlib.Omega.{arith}
 use lib.Dec.{eqb, leb}
 use lib.ListN.{length, getD, set, take, drop, length-map, length-take, List·getD-map, List·getD-eq-default, drop-of-length-le}
 use lib.Seq.{drop-cons, set-out, set-getD, getD-take}
-use borrow.Author.Tests.{eq-eqb, ne-eqb, leb-true, leb-false}
+use borrow.Author.Tests.{eq-eqb, ne-eqb, leb-false}
 use Rattle.laws.specs.Logic.{pick, pick-yes, pick-no, _and_, _or_, and-false}
 use Rattle.laws.specs.Count.{at}
 use Rattle.laws.specs.Walk.{walk, walk-nil, walk-go}

@@ -1,8 +1,7 @@
 -- `thread_object`, `process_object` and `resolve` of mod.rs: the objects that the kernel keeps for threads and for the process.
-use mathlib.Core.Bool.{Bool, true, false}
-use Prim.Native.Nat.{ℕ, zero, suc}
+use Prim.Native.Nat.{ℕ}
 use lib.Dec.{eqb}
-use lib.ListN.{getD, set}
+use lib.ListN.{set}
 use Rattle.laws.specs.Logic.{pick}
 use Rattle.types.specs.declared.thread.ThreadOption.{ThreadOption}
 use Rattle.types.specs.declared.thread.ThreadOption.the-variants.{NoThread, SomeThread}

@@ -8,8 +8,8 @@ use types::thread::ThreadOption;
 use units::Handle;
 use units::ObjectId;
 ghost use mathlib.Core.Path.{_≡_};
-ghost use Prim.Native.Nat.{_+_, _-_, _<_, _≤_};
-ghost use lib.ListN.{length, getD, set};
+ghost use Prim.Native.Nat.{_-_, _<_};
+ghost use lib.ListN.{getD, set};
 ghost use Rattle.sound.specs.View.{ids};
 ghost use Rattle.object.specs.Kept as def;
 

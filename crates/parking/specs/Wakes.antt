@@ -9,7 +9,7 @@ use lib.Dec.{eqb}
 use lib.ListN.{length, set, length-append}
 use lib.Seq.{getD-append-seam, set-append-seam}
 use borrow.Author.Tests.{eqb-true, eq-eqb, ne-eqb}
-use Rattle.laws.specs.Logic.{pick, _and_, _or_, and-true, pick-yes, pick-no, false-true}
+use Rattle.laws.specs.Logic.{pick, _or_, and-true, pick-yes, pick-no, false-true}
 use Rattle.laws.specs.Count.{ind-same, ind-eq, count}
 use Rattle.types.specs.declared.thread.ThreadStatus.{ThreadStatus}
 use Rattle.types.specs.declared.thread.ThreadStatus.the-variants.{Dead, Running, Ready, Sleeping, WaitSync, WaitArbiter, Dormant}

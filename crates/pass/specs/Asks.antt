@@ -1,17 +1,15 @@
 -- `satisfied_now` and `quiet_release` of mod.rs: what a call would find, with nothing changed.
-use mathlib.Core.Bool.{Bool, true, false, not}
+use mathlib.Core.Bool.{Bool, true, not}
 use mathlib.Core.List.{List, [], _∷_, map}
-use Prim.Native.Nat.{ℕ, zero, suc, _-_}
+use Prim.Native.Nat.{ℕ, zero, suc}
 use lib.Dec.{eqb, leb, ltb}
-use lib.ListN.{length, replicate, take}
+use lib.ListN.{length, replicate}
 use Rattle.laws.specs.Logic.{pick, _and_, _or_}
 use Rattle.units.specs.declared.ObjectId.{ObjectId}
 use Rattle.types.specs.declared.thread.ThreadStatus.{ThreadStatus}
 use Rattle.types.specs.declared.thread.ThreadStatus.the-variants.{Dead, Running, Ready, Sleeping, WaitSync, WaitArbiter, Dormant}
 use Rattle.types.specs.declared.thread.ThreadOption.{ThreadOption}
 use Rattle.types.specs.declared.thread.ThreadOption.the-variants.{NoThread, SomeThread}
-use Rattle.types.specs.declared.thread.WaitResult.{WaitResult}
-use Rattle.types.specs.declared.thread.WaitResult.the-variants.{NoResult}
 use Rattle.types.specs.declared.thread.Thread as th
 use Rattle.types.specs.declared.object.KObject.{KObject}
 use Rattle.types.specs.declared.object.KObject.the-variants.{Free, Thread, Event, Mutex, Semaphore, Timer, AddressArbiter, Process, ResourceLimit}

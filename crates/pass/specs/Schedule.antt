@@ -5,7 +5,6 @@ use Prim.Native.Nat.{ℕ, _-_}
 use lib.Dec.{eqb, ltb}
 use lib.ListN.{set}
 use Rattle.laws.specs.Logic.{pick, _and_}
-use Rattle.types.specs.declared.thread.ThreadStatus.{ThreadStatus}
 use Rattle.types.specs.declared.thread.ThreadStatus.the-variants.{Ready, Running}
 use Rattle.types.specs.declared.thread.ThreadOption.{ThreadOption}
 use Rattle.types.specs.declared.thread.ThreadOption.the-variants.{NoThread, SomeThread}
@@ -14,7 +13,6 @@ use Rattle.types.specs.declared.object.ObjectStore.{ObjectStore}
 use Rattle.types.specs.declared.kernel.Kernel.{Kernel}
 use Rattle.sound.specs.View.{threadAt}
 use Rattle.thread.specs.Thread.{withStatus}
-use Rattle.thread.specs.Threads.{withThreads}
 use Rattle.pass.specs.declared.Waits.{Waits}
 use Rattle.pass.specs.declared.Passed.{Passed}
 use Rattle.pass.specs.Signal.{clearPulses}

@@ -2,9 +2,8 @@
 use mathlib.Core.Bool.{Bool, true, false, not}
 use mathlib.Core.List.{List, [], _∷_, map}
 use Prim.Native.Nat.{ℕ, suc, _+_, _-_, _*_, _/_}
-use lib.Dec.{eqb, leb, ltb}
+use lib.Dec.{leb, ltb}
 use Rattle.laws.specs.Logic.{pick, _and_, _or_}
-use Rattle.units.specs.declared.Ticks.{Ticks}
 use Rattle.types.specs.declared.thread.TickOption.{TickOption}
 use Rattle.types.specs.declared.thread.TickOption.the-variants.{NoTick, SomeTick}
 use Rattle.types.specs.declared.thread.Thread as th

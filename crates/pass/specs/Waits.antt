@@ -26,7 +26,7 @@ use Rattle.pass.specs.declared.IndexOption.the-variants.{NoIndex, SomeIn
 use Rattle.pass.specs.declared.Fate.{Fate}
 use Rattle.pass.specs.declared.Fate.the-variants.{Stays, Given, TimedOut, Slept}
 use Rattle.pass.specs.declared.Waits.{Waits}
-use Rattle.pass.specs.Signal.{isSignaled, acquire, acquires}
+use Rattle.pass.specs.Signal.{isSignaled, acquires}
 use Rattle.pass.specs.Timers.{dueBy, saturatingAdd}
 
 -- ---- which of a list's objects satisfies a wait

@@ -1,6 +1,5 @@
 -- `pick_other` as it is computed: the number of the best thread so far, 32 for none.
-use mathlib.Core.Path.{_≡_, refl}
-use mathlib.Core.Bool.{Bool, true, false, not}
+use mathlib.Core.Bool.{Bool, not}
 use Prim.Native.Nat.{ℕ}
 use lib.Dec.{eqb, leb, ltb}
 use Rattle.laws.specs.Logic.{pick, _and_}

@@ -6,7 +6,7 @@ use types::thread::ThreadStatus;
 ghost use mathlib.Core.Path.{_≡_};
 ghost use mathlib.Core.Bool.{not};
 ghost use Prim.Native.Nat.{_+_, _-_, _<_, _≤_};
-ghost use lib.Dec.{eqb, leb};
+ghost use lib.Dec.{eqb};
 ghost use lib.ListN.{length};
 ghost use Rattle.laws.specs.Logic.{pick, _and_};
 ghost use Rattle.sound.specs.Threads.{isCurrent};
@@ -42,19 +42,10 @@ pub fn is_running(s: ThreadStatus) -> bool
     }
 }
 
-pub fn is_current(c: ThreadOption, i: u32) -> bool
-    ensures { λ r. ⌜ r ≡ isCurrent c i ⌝ }
-{
-    match c {
-        ThreadOption::NoThread => false,
-        ThreadOption::SomeThread(t) => t == i,
-    }
-}
-
 fn other_ready(c: ThreadOption, i: u32, t: Thread) -> bool
     ensures { λ r. ⌜ r ≡ (not (isCurrent c i) and def.isRunnable (t .status)) ⌝ }
 {
-    if is_current(c, i) {
+    if sound::is_current(c, i) {
         return false;
     }
     let s = t.status;

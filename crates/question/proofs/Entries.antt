@@ -1,8 +1,7 @@
 -- Entries of a block that are zero, as words and as handles. Assumes nothing.
 use mathlib.Core.Path.{_≡_, refl, ap, sym, _∙_}
-use mathlib.Core.Bool.{Bool, true, false}
 use mathlib.Core.List.{List, [], _∷_, _++_}
-use Prim.Native.Nat.{ℕ, zero, suc, _+_, _-_, _*_, _≤_, _<_}
+use Prim.Native.Nat.{ℕ, zero, suc, _+_, _-_, _*_, _≤_}
 use native.Mathlib.Nat.{add-zero, suc-mul, zero-mul}
 use native.Mathlib.Omega.{arith}
 use lib.Dec.{eqb}
@@ -15,7 +14,6 @@ use Rattle.codec.specs.Layout.{decAll}
 use Rattle.codec.proofs.Same.{same-append, same-cut, length-part}
 use Rattle.block.specs.Table.{decEntry}
 use Rattle.sound.specs.Handles.{noEntries?}
-use Rattle.types.specs.declared.object.HandleEntry.{HandleEntry}
 
 -- the records of a table from n on
 module _ {A : Type 0} (dec : List ℕ → A) (size : ℕ) where

@@ -1,18 +1,18 @@
 -- One turn of each loop. Assumes nothing.
 use mathlib.Core.Path.{_≡_, refl, ap, sym, _∙_}
 use mathlib.Core.Bool.{Bool, true, false, not}
-use mathlib.Core.Logic.{_≢_}
+use mathlib.Core.Logic.{_≢_, inl, inr}
 use mathlib.Core.List.{List, [], _∷_}
 use Prim.Native.Nat.{ℕ, zero, suc, _+_, _-_, _≤_, _<_}
 use native.Mathlib.Numerals.{add-one}
 use native.Mathlib.Omega.{arith}
 use lib.Dec.{eqb, leb, ltb}
-use borrow.Author.Tests.{leb-true, leb-false, ltb-true, ltb-false, le-ltb, ne-eqb}
+use borrow.Author.Tests.{leb-true, leb-false, ltb-true, ltb-false, le-ltb, lt-leb, ne-eqb}
 use lib.ListN.{length, getD, drop, drop-of-length-le}
 use lib.Seq.{drop-cons}
-use Rattle.laws.specs.Logic.{pick, pick-no, _and_, and-true, and-no, and-yes, and-end, and-false, and-assoc}
+use Rattle.laws.specs.Logic.{pick-no, _and_, and-true, and-no, and-end, and-false, and-assoc, lt-cases}
 use Rattle.laws.specs.Count.{one?}
-use Rattle.laws.specs.Tally.{bump, tally}
+use Rattle.laws.specs.Tally.{bump, tally, tally-le}
 use Rattle.units.specs.declared.ObjectId.{ObjectId}
 use Rattle.types.specs.declared.thread.Thread.{Thread}
 use Rattle.types.specs.declared.thread.ThreadOption.{ThreadOption}
@@ -91,12 +91,40 @@ pub two-zeros : (a b : ℕ) → zeros? (a ∷ b ∷ []) ≡ eqb a 0 and eqb b 0
 unfolding zeros?
 two-zeros a b = ap (λ t. eqb a 0 and t) (and-end (eqb b 0))
 
-pub rising-step : (es : List HandleEntry) (n i low next : ℕ) (d : HandleEntry) → i < length es → i < n
-    → rising? (n - i) low (drop i es) next ≡ entry? low (getD es i d) next and rising? (n - (i + 1)) (getD es i d .handle .0 + 1) (drop (i + 1) es) next
+-- handles from past the next one on do not come to their end
+rising-over : (n low next : ℕ) (es : List HandleEntry) → next < low → rising? n low es next ≡ false
+unfolding rising? _and_
+rising-over zero low next es h = rw (lt-leb low next h)
+rising-over (suc n) low next [] h = refl
+rising-over (suc n) low next (e ∷ es) h =
+    elim (lt-cases (e .handle .0) low) [
+      | inl p ↦ rw (lt-leb low (e .handle .0) p)
+      | inr p ↦ rw (le-ltb (e .handle .0) next (omega arith), and-false)
+    ]
+
+and-three : (a b c d : Bool) → a and (b and (c and d)) ≡ (a and (b and c)) and d
+unfolding _and_
+and-three true true c d = refl
+and-three true false c d = refl
+and-three false b c d = refl
+
+-- a test that the rest answers too
+and-skip : (a b c d e : Bool) → (b ≡ false → e ≡ false) → a and (b and (c and (d and e))) ≡ (a and (c and d)) and e
+unfolding _and_
+and-skip a true c d e f = and-three a c d e
+and-skip a false c d e f = and-false a ∙ sym (ap (λ (t : Bool). (a and (c and d)) and t) (f refl) ∙ and-false (a and (c and d)))
+
+rising-next : (n low next : ℕ) (e : HandleEntry) (es : List HandleEntry) → rising? (suc n) low (e ∷ es) next ≡ entry? low e and rising? n (suc (e .handle .0)) es next
 unfolding rising? entry?
+rising-next n low next e es =
+    let h = e .handle .0 in
+    and-skip (leb low h) (ltb h next) (ltb 0 (e .object .0)) (leb (e .object .0) 128) (rising? n (suc h) es next) (λ p. rising-over n (suc h) next es (omega (arith, ltb-false h next p)))
+
+pub rising-step : (es : List HandleEntry) (n i low next : ℕ) (d : HandleEntry) → i < length es → i < n
+    → rising? (n - i) low (drop i es) next ≡ entry? low (getD es i d) and rising? (n - (i + 1)) (getD es i d .handle .0 + 1) (drop (i + 1) es) next
 rising-step es n i low next d h q =
     let f : n - i ≡ suc (n - (i + 1)) = omega arith in
-    rw (f, drop-cons es i d h, add-one i, add-one (getD es i d .handle .0)) (and-four _ _ _ _ _)
+    rw (f, drop-cons es i d h, add-one i, add-one (getD es i d .handle .0)) (rising-next _ _ _ _ _)
 
 pub rising-end : (es : List HandleEntry) (n i low next : ℕ) → n ≤ i → rising? (n - i) low es next ≡ leb low next and noEntries? es
 unfolding rising?
@@ -110,11 +138,20 @@ rising-far (suc n) low next [] h = refl
 rising-far (suc n) low next (e ∷ es) h = rw (rising-far n (suc (e .handle .0)) next es (omega arith), and-false, and-false, and-false, and-false)
 
 -- an entry in use names an object
-pub entry-names : (low next : ℕ) (e : HandleEntry) → entry? low e next ≡ true → nameOf (e .object .0) ≡ e .object .0
+pub entry-names : (low : ℕ) (e : HandleEntry) → entry? low e ≡ true → nameOf (e .object .0) ≡ e .object .0
 unfolding entry?
-entry-names low next e h =
-    let o = ltb-true 0 (e .object .0) (and-true _ _ (and-true _ _ (and-true _ _ h .1) .1) .0) in
+entry-names low e h =
+    let o = ltb-true 0 (e .object .0) (and-true _ _ (and-true _ _ h .1) .0) in
     pick-no (eqb (e .object .0) 0) 129 (e .object .0) (ne-eqb (e .object .0) 0 (omega (arith, o)))
+
+pub entry-object : (low : ℕ) (e : HandleEntry) → entry? low e ≡ true → e .object .0 ≤ 128
+unfolding entry?
+entry-object low e h = leb-true (e .object .0) 128 (and-true _ _ (and-true _ _ h .1) .1)
+
+-- counts after one more
+pub count-more : (c : List ℕ) (o m : ℕ) → length c ≡ 129 → ((j : ℕ) → getD c j 0 ≤ m) → m + 1 ≤ 100000 → (j : ℕ) → getD (bump 129 c o) j 0 ≤ m + 1
+unfolding tally
+count-more c o m e b r j = tally-le 129 (o ∷ []) c m e b r j
 
 -- entries that are zero name nothing
 pub none-tally : (c : List ℕ) (es : List HandleEntry) → noEntries? es ≡ true → tally 129 c (handleNames es) ≡ c

@@ -1,20 +1,17 @@
 -- Question 2 as it is computed: names, chains and TLS slots are counted once into arrays.
-use mathlib.Core.Path.{_≡_}
 use mathlib.Core.Bool.{Bool, true, false, not}
-use mathlib.Core.List.{List, [], _∷_, map}
-use Prim.Native.Nat.{ℕ, zero, suc, _+_, _-_}
+use mathlib.Core.List.{List}
+use Prim.Native.Nat.{ℕ, _-_}
 use lib.Dec.{eqb, leb, ltb}
-use lib.ListN.{length, getD}
-use Rattle.laws.specs.Logic.{pick, _and_, _or_}
+use lib.ListN.{getD}
+use Rattle.laws.specs.Logic.{_and_}
 use Rattle.laws.specs.Count.{at}
 use Rattle.laws.specs.Numbers.{allTo, allBelow}
 use Rattle.types.specs.declared.thread.ThreadOption.{ThreadOption}
-use Rattle.types.specs.declared.thread.ThreadOption.the-variants.{NoThread, SomeThread}
 use Rattle.types.specs.declared.thread.ThreadStatus.{ThreadStatus}
 use Rattle.types.specs.declared.thread.ThreadStatus.the-variants.{Dead, Running, Ready, Sleeping, WaitSync, WaitArbiter, Dormant}
 use Rattle.types.specs.declared.thread.Thread as th
 use Rattle.types.specs.declared.object.HandleEntry.{HandleEntry}
-use Rattle.types.specs.Thread.{isDead}
 use Rattle.sound.specs.View.{threadAt}
 use Rattle.sound.specs.Threads.{place?}
 
@@ -40,8 +37,9 @@ unfoldable pub once32? : List ℕ → Bool
 once32? m = allBelow 32 (λ s. leb (getD m s 0) 1)
 
 -- ---- handles
-unfoldable pub entry? : ℕ → HandleEntry → ℕ → Bool
-entry? low e next = leb low (e .handle .0) and (ltb (e .handle .0) next and (ltb 0 (e .object .0) and leb (e .object .0) 128))
+-- from low on: that the last one is below the next is asked once, after all of them
+unfoldable pub entry? : ℕ → HandleEntry → Bool
+entry? low e = leb low (e .handle .0) and (ltb 0 (e .object .0) and leb (e .object .0) 128)
 
 -- ---- a slot of kind number k and count r that is named n times and stands f times on the free chain
 unfoldable pub slot? : ℕ → ℕ → ℕ → ℕ → Bool

@@ -1,15 +1,16 @@
 -- The tests of objects and records as they are computed, over columns that one pass makes.
 use mathlib.Core.Bool.{Bool, true}
 use mathlib.Core.List.{List, [], _∷_, map}
-use Prim.Native.Nat.{ℕ, _-_}
+use Prim.Native.Nat.{ℕ}
 use lib.Dec.{eqb, leb, ltb}
 use lib.ListN.{getD, replicate}
-use Rattle.laws.specs.Logic.{pick, _and_, _or_}
+use Rattle.laws.specs.Logic.{_and_, _or_}
 use Rattle.laws.specs.Count.{one?, at}
 use Rattle.laws.specs.Numbers.{allTo, allBelow}
 use Rattle.laws.specs.Walk.{walk, ends?}
 use Rattle.laws.specs.Tally.{bump, tally, tallyAll}
 use Rattle.units.specs.declared.ObjectId.{ObjectId}
+use Rattle.tally.specs.Place.{slotIndex}
 use Rattle.types.specs.declared.thread.ThreadOption.{ThreadOption}
 use Rattle.types.specs.declared.thread.ThreadOption.the-variants.{NoThread, SomeThread}
 use Rattle.types.specs.declared.thread.ThreadStatus.{ThreadStatus}
@@ -53,9 +54,6 @@ abbrev pub marksOf : List ℕ → ℕ → List ℕ
 marksOf ns free = tally 129 (replicate 129 0) (walk ns 128 free)
 
 -- ---- kept objects: a number past the last slot reads the first one, and fails by the number
-unfoldable pub slotIndex : ℕ → ℕ
-slotIndex x = pick (eqb x 0) 0 (pick (ltb 128 x) 0 (x - 1))
-
 unfoldable pub keptThread? : ℕ → ℕ → ℕ → ℕ → Bool
 keptThread? x kind u t = eqb x 0 or (leb x 128 and (eqb kind 1 and eqb u t))
 

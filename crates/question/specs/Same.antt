@@ -13,7 +13,7 @@ use Rattle.laws.specs.All.{All}
 use Rattle.laws.specs.Count.{at, count, countAll, ind, ind-other, one?}
 use Rattle.laws.specs.Numbers.{allTo, allTo-same}
 use Rattle.laws.specs.Walk.{walk, ends?, walk-length}
-use Rattle.laws.specs.Tally.{bump, tally, tallyAll, bump-get, length-tally, tally-get, tally-le, length-tallyAll, tallyAll-get, tallyAll-le, zero-get, zero-le}
+use Rattle.laws.specs.Tally.{tally, tallyAll, bump-get, length-tally, tally-get, tally-le, length-tallyAll, tallyAll-get, tallyAll-le, zero-get, zero-le}
 use Rattle.laws.specs.StoreTest as store
 use Rattle.laws.specs.PoolTest.{walks, end?, pool?}
 use Rattle.units.specs.declared.ObjectId.{ObjectId}
@@ -31,14 +31,15 @@ use Rattle.types.specs.declared.kernel.Kernel.{Kernel}
 use Rattle.types.specs.Thread.{isDead}
 use Rattle.types.specs.Object.{kindNumber, nextOf, headOf}
 use Rattle.block.proofs.Fits.{StateFits}
-use Rattle.sound.specs.View.{kinds, refs, nexts, ids, handled, lists, heads, waiterNexts, waiterThreads, waiterAddresses, noSlot, noThread, slotAt, threadAt, at-slots}
+use Rattle.sound.specs.View.{kinds, refs, nexts, ids, lists, heads, waiterNexts, waiterThreads, waiterAddresses, noSlot, noThread, slotAt, threadAt, at-slots}
 use Rattle.sound.specs.Objects.{names, keptNames, held?, keptIn?, isThread?, isProcess?, kept?, owner?, content?, contents?}
 use Rattle.sound.specs.Sound.{state?}
 use Rattle.sound.specs.Records.{chain?, blanks?, chained?, freeChain, records?}
 use Rattle.tally.specs.Lists as list
 use Rattle.tally.specs.Lists.{Eight, nameOf, handleNames, listNames}
 use Rattle.question.specs.Linear.{slot?, slots?}
-use Rattle.question.specs.LinearObjects.{namedOf, named, countsOf, marksOf, slotIndex, keptThread?, keptProcess?, indexed, keptThreads?, keptBy?, objectsBy?, deadMark, deadMarks, live?, ownerBy?, contentBy?, contentsBy?, endAll?, walkAll, onceAll?, sharedOut?, chainsBy?, chainAll?, finePool?, recordsBy?, tables?, store?}
+use Rattle.tally.specs.Place.{slotIndex}
+use Rattle.question.specs.LinearObjects.{namedOf, named, countsOf, marksOf, keptThread?, keptProcess?, indexed, keptThreads?, keptBy?, objectsBy?, deadMark, deadMarks, live?, ownerBy?, contentBy?, contentsBy?, endAll?, walkAll, onceAll?, sharedOut?, chainsBy?, chainAll?, finePool?, recordsBy?, tables?, store?}
 
 -- ---- a number that names no object is counted nowhere
 module _ (o : ℕ) (p : 0 < o) (q : o ≤ 128) where

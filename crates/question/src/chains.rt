@@ -1,7 +1,7 @@
 // Chain walks, by recursion with a falling allowance, so that a damaged chain ends too. A chain goes over the first n of 128
 // numbers: references to arrays are handed on in registers, so that a walk is compiled to a loop.
 ghost use mathlib.Core.Path.{_≡_};
-ghost use Prim.Native.Nat.{_+_, _-_, _<_, _≤_};
+ghost use Prim.Native.Nat.{_-_, _<_, _≤_};
 ghost use lib.ListN.{length, take};
 ghost use Rattle.laws.specs.Logic.{_and_};
 ghost use Rattle.laws.specs.Count as cells;

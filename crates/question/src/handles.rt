@@ -3,16 +3,16 @@ use types::object::HandleEntry;
 ghost use mathlib.Core.Path.{_≡_};
 ghost use mathlib.Core.Bool.{true};
 ghost use Prim.Native.Nat.{_+_, _-_, _*_, _<_, _≤_};
-ghost use lib.ListN.{length};
-ghost use Rattle.laws.specs.Tally.{tally};
+ghost use lib.ListN.{length, getD, replicate};
+ghost use Rattle.laws.specs.Tally.{bump, tally};
 ghost use Rattle.block.specs.Tables.{entriesIn};
 ghost use Rattle.tally.specs.Lists.{handleNames};
 ghost use Rattle.sound.specs.Handles.{rising?};
 ghost use Rattle.question.specs.Linear.{entry?};
 
-// A handle from low on, below next, of an object number.
-fn entry_ok(low: u64, e: HandleEntry, next: u32) -> bool
-    ensures { λ r. ⌜ r ≡ entry? low e next ⌝ }
+// A handle from low on, of an object number.
+fn entry_ok(low: u64, e: HandleEntry) -> bool
+    ensures { λ r. ⌜ r ≡ entry? low e ⌝ }
 {
     let h = e.handle;
     let o = e.object;
@@ -21,19 +21,28 @@ fn entry_ok(low: u64, e: HandleEntry, next: u32) -> bool
     if (x as u64) < low {
         return false;
     }
-    if next <= x {
-        return false;
-    }
     if y == 0 {
         return false;
     }
     y <= 128
 }
 
-// count handles in rising order from 0x10000, below next, each of an object number, and zeros; one more in c for the object
-// of each.
+// One more for o, where no count is high.
+fn count_at(c: &mut [u32; 129], o: u32)
+    requires { ⌜ o ≤ 128 ⌝ }
+    requires { ⌜ getD (now c) o 0 < 100000 ⌝ }
+    ensures { λ _. ⌜ now (c .exit) ≡ bump 129 (now (c .entry)) o ⌝ }
+{
+    let i = o as usize;
+    let v = c[i];
+    c[i] = v + 1;
+}
+
+// count handles in rising order from 0x10000, the last below next, each of an object number, and zeros; one more in c for the
+// object of each.
 pub fn handles_ok(b: &[u8], c: &mut [u32; 129], count: u32, next: u32) -> bool
     requires { ⌜ length (now b) ≡ 16384 ⌝ }
+    requires { ⌜ now c ≡ replicate 129 0 ⌝ }
     ensures { λ r. ⌜ r ≡ rising? count 0x10000 (entriesIn (now (b .entry))) next ⌝ }
     ensures { λ r. ⌜ (r ≡ true → now (c .exit) ≡ tally 129 (now (c .entry)) (handleNames (entriesIn (now (b .entry))))) ⌝ }
 {
@@ -45,12 +54,12 @@ pub fn handles_ok(b: &[u8], c: &mut [u32; 129], count: u32, next: u32) -> bool
     let mut i: usize = 0;
     while i < n {
         let e = block::record::entry_at(b, i);
-        if !entry_ok(low, e, next) {
+        if !entry_ok(low, e) {
             return false;
         }
         let h = e.handle;
         let o = e.object;
-        tally::bump_at(c, o.0);
+        count_at(c, o.0);
         low = h.0 as u64 + 1;
         i += 1;
     }

@@ -12,7 +12,7 @@ pub mod tls;
 use units::ObjectId;
 ghost use mathlib.Core.Path.{_≡_};
 ghost use mathlib.Core.Bool.{true};
-ghost use lib.ListN.{length};
+ghost use lib.ListN.{length, replicate};
 ghost use Rattle.laws.specs.Tally.{bump, tally, tallyAll};
 ghost use Rattle.block.specs.Block.{decBlock};
 ghost use Rattle.block.specs.Tables.{threadsIn, entriesIn, keptIn};
@@ -23,6 +23,7 @@ ghost use Rattle.question.specs.LinearObjects.{tables?, store?};
 // Threads, TLS slots and handles; one more in c for each object that a handle or a list names.
 fn tables_ok(b: &[u8], c: &mut [u32; 129]) -> bool
     requires { ⌜ length (now b) ≡ 16384 ⌝ }
+    requires { ⌜ now c ≡ replicate 129 0 ⌝ }
     ensures { λ r. ⌜ r ≡ tables? (decBlock (now (b .entry))) ⌝ }
     ensures { λ r. ⌜ (r ≡ true → now (c .exit) ≡ tallyAll 129 (tally 129 (now (c .entry)) (handleNames (entriesIn (now (b .entry))))) (listNames (threadsIn (now (b .entry))))) ⌝ }
 {

@@ -1,6 +1,6 @@
 // How often the block names each object, besides by handles.
 ghost use mathlib.Core.Path.{_≡_};
-ghost use Prim.Native.Nat.{_+_, _*_, _<_, _≤_};
+ghost use Prim.Native.Nat.{_+_, _<_};
 ghost use lib.ListN.{length};
 ghost use Rattle.laws.specs.Tally.{tally, tallyAll};
 ghost use Rattle.block.specs.Tables.{threadsIn, keptIn};

@@ -6,7 +6,7 @@ use types::thread::ThreadOption;
 use types::thread::ThreadStatus;
 use units::ObjectId;
 ghost use mathlib.Core.Path.{_≡_};
-ghost use Prim.Native.Nat.{_+_, _-_, _*_, _<_, _≤_};
+ghost use Prim.Native.Nat.{_+_, _-_, _<_};
 ghost use lib.Dec.{leb};
 ghost use lib.ListN.{length, replicate};
 ghost use Rattle.laws.specs.Logic.{_and_};
@@ -16,7 +16,7 @@ ghost use Rattle.block.specs.Tables.{threadsIn, slotsIn, keptIn};
 ghost use Rattle.sound.specs.View.{kinds, refs, nexts, heads, ids};
 ghost use Rattle.sound.specs.Objects.{upTo128};
 ghost use Rattle.question.specs.Linear.{slot?, slots?};
-ghost use Rattle.question.specs.LinearObjects.{namedOf, named, slotIndex, keptThread?, keptProcess?, keptThreads?, keptBy?, objectsBy?, deadMark, deadMarks, live?, ownerBy?, contentBy?, contentsBy?};
+ghost use Rattle.question.specs.LinearObjects.{namedOf, named, keptThread?, keptProcess?, keptThreads?, keptBy?, objectsBy?, deadMark, deadMarks, live?, ownerBy?, contentBy?, contentsBy?};
 
 // The thread that a thread object names.
 fn named_of(o: KObject) -> u32
@@ -118,20 +118,6 @@ fn held_ok<'a>(
     slots_ok(ks, rs, c, &m)
 }
 
-// Where the slot of object x stands; 0 where there is none.
-fn slot_index(x: u32) -> usize
-    ensures { λ r. ⌜ r ≡ slotIndex x ⌝ }
-    ensures { λ r. ⌜ r < 128 ⌝ }
-{
-    if x == 0 {
-        return 0;
-    }
-    if 128 < x {
-        return 0;
-    }
-    (x - 1) as usize
-}
-
 // The number kept for thread t, and the kind and the thread of what stands at its index.
 fn kept_thread(x: u32, kind: u32, named: u32, t: u32) -> bool
     ensures { λ r. ⌜ r ≡ keptThread? x kind named t ⌝ }
@@ -168,7 +154,7 @@ fn kept_threads_ok<'a>(ks: &'a [u32; 128], ts: &'a [u32; 128], b: &'a [u8]) -> b
     while 0 < t {
         let k = block::record::kept_at(b, (t - 1) as usize);
         let x = k.0;
-        let i = slot_index(x);
+        let i = tally::place::slot_index(x);
         if !kept_thread(x, ks[i], ts[i], t - 1) {
             return false;
         }
@@ -186,7 +172,7 @@ fn kept_ok<'a>(ks: &'a [u32; 128], ts: &'a [u32; 128], b: &'a [u8], process: Obj
     if !kept_threads_ok(ks, ts, b) {
         return false;
     }
-    kept_process(x, ks[slot_index(x)])
+    kept_process(x, ks[tally::place::slot_index(x)])
 }
 
 fn dead_mark(s: ThreadStatus) -> u32

@@ -2,7 +2,7 @@
 use crate::chains;
 use crate::chains::both;
 ghost use mathlib.Core.Path.{_≡_};
-ghost use Prim.Native.Nat.{_+_, _*_, _<_, _≤_};
+ghost use Prim.Native.Nat.{_+_, _<_};
 ghost use lib.ListN.{length, take};
 ghost use Rattle.laws.specs.Tally.{tallyAll};
 ghost use Rattle.block.specs.Tables.{waitersIn};

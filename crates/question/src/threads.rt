@@ -7,15 +7,14 @@ use types::thread::ThreadOption;
 use types::thread::ThreadStatus;
 use units::ObjectId;
 ghost use mathlib.Core.Path.{_≡_};
-ghost use mathlib.Core.Bool.{not};
-ghost use Prim.Native.Nat.{_+_, _-_, _*_, _<_, _≤_};
+ghost use Prim.Native.Nat.{_+_, _-_, _<_};
 ghost use lib.Dec.{eqb};
 ghost use lib.ListN.{length};
 ghost use Rattle.laws.specs.Logic.{_and_};
 ghost use Rattle.block.specs.Thread.{wordsList};
 ghost use Rattle.block.specs.Tables.{threadsIn};
 ghost use Rattle.sound.specs.View.{ids};
-ghost use Rattle.sound.specs.Threads.{zeros?, places?, only?, isCurrent, run?, thread?, blank?, place?, current?, threads?};
+ghost use Rattle.sound.specs.Threads.{zeros?, places?, only?, thread?, blank?, place?, current?, threads?};
 ghost use Rattle.question.specs.Linear.{onePlace?, runs?, places32?};
 
 fn one_place_ok(used: bool, o: ObjectId) -> bool
@@ -86,15 +85,6 @@ fn only_ok(s: ThreadStatus, n: u32) -> bool
     }
 }
 
-fn is_current(c: ThreadOption, i: u32) -> bool
-    ensures { λ r. ⌜ r ≡ isCurrent c i ⌝ }
-{
-    match c {
-        ThreadOption::NoThread => false,
-        ThreadOption::SomeThread(t) => t == i,
-    }
-}
-
 fn run_ok(s: ThreadStatus, current: bool) -> bool
     ensures { λ r. ⌜ r ≡ runs? s current ⌝ }
 {
@@ -119,7 +109,7 @@ fn thread_ok(c: ThreadOption, i: u32, t: Thread) -> bool
     if 63 < t.priority {
         return false;
     }
-    if !run_ok(s, is_current(c, i)) {
+    if !run_ok(s, sound::is_current(c, i)) {
         return false;
     }
     if !places_ok(n, l) {

@@ -1,7 +1,7 @@
 // TLS slots.
 use types::thread::Thread;
 ghost use mathlib.Core.Path.{_≡_};
-ghost use Prim.Native.Nat.{_+_, _-_, _*_, _<_, _≤_};
+ghost use Prim.Native.Nat.{_+_, _-_, _<_};
 ghost use lib.ListN.{length};
 ghost use Rattle.laws.specs.Tally.{tally};
 ghost use Rattle.block.specs.Tables.{threadsIn};

@@ -17,7 +17,7 @@ use units::ObjectId;
 use wait::now;
 ghost use mathlib.Core.Path.{_≡_};
 ghost use mathlib.Core.Bool.{not};
-ghost use Prim.Native.Nat.{_+_, _-_, _<_, _≤_};
+ghost use Prim.Native.Nat.{_+_, _-_, _<_};
 ghost use lib.Dec.{eqb, leb};
 ghost use Rattle.laws.specs.Logic.{_and_, _or_};
 ghost use Rattle.sound.specs.View.{ids, threadAt};

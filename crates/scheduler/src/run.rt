@@ -4,7 +4,7 @@ use types::thread::ThreadOption;
 use types::thread::ThreadStatus;
 use units::Ticks;
 ghost use mathlib.Core.Path.{_≡_};
-ghost use Prim.Native.Nat.{_+_, _-_, _<_, _≤_};
+ghost use Prim.Native.Nat.{_-_, _<_};
 ghost use lib.Dec.{ltb};
 ghost use Rattle.laws.specs.Logic.{pick};
 ghost use Rattle.thread.specs.Thread.{withStatus};

@@ -3,16 +3,16 @@
 -- `timers` is the set of live timer slots by definition, so nothing is asked of it.
 use mathlib.Core.Path.{_≡_, refl, ap, sym, subst, _∙_}
 use mathlib.Core.Bool.{Bool, true, false, not}
-use mathlib.Core.Logic.{_⊎_, inl, inr}
-use mathlib.Core.List.{List, [], _∷_, map}
-use Prim.Native.Nat.{ℕ, zero, suc, _+_, _-_, _≤_, _<_}
+use mathlib.Core.Logic.{inl, inr}
+use mathlib.Core.List.{List, [], _∷_}
+use Prim.Native.Nat.{ℕ, _+_, _-_, _≤_, _<_}
 use native.Mathlib.Omega.{arith}
 use lib.Dec.{eqb, leb, ltb}
 use lib.ListN.{length, getD, length-map, List·getD-eq-default}
 use Rattle.laws.specs.Logic.{_and_, _or_, and-true, true-and, lt-cases}
 use Rattle.laws.specs.Test.{Test, t-yes, t-never, t-eq, t-le, t-lt, t-and, t-as, t-not, t-zero-or}
 use Rattle.laws.specs.Numbers.{allTo, allBelow, t-allBelow}
-use Rattle.laws.specs.Count.{count, countAll, ind, ind-other, ind-same, at}
+use Rattle.laws.specs.Count.{count, countAll, ind, ind-other, ind-same}
 use Rattle.laws.specs.Store.{Store}
 use Rattle.laws.specs.StoreTest.{store?, store-yes, yes-store, at-out}
 use Rattle.units.specs.declared.ObjectId.{ObjectId}
@@ -26,7 +26,7 @@ use Rattle.types.specs.declared.object.HandleTable.{HandleTable}
 use Rattle.types.specs.declared.object.ObjectStore.{ObjectStore}
 use Rattle.types.specs.Thread.{isDead}
 use Rattle.types.specs.Object.{kindNumber}
-use Rattle.sound.specs.View.{kinds, refs, nexts, ids, handled, lists, noSlot, noThread, slotAt, objectAt, threadAt, t-slots}
+use Rattle.sound.specs.View.{kinds, refs, nexts, ids, handled, lists, objectAt, threadAt, t-slots}
 
 -- ---- how often the object i is named by handles and lists; an unused place names 0
 unfoldable pub names : HandleTable → List th.Thread → ℕ → ℕ

@@ -1,6 +1,6 @@
 -- Question 2 on a block: it is the encoding of what it decodes to, and that is a sound state.
 -- The first part asks for known statuses and kinds, flags of 0 or 1, and zero in everything unused or spare.
-use mathlib.Core.Path.{_≡_, sym}
+use mathlib.Core.Path.{_≡_}
 use mathlib.Core.Bool.{Bool, true}
 use mathlib.Core.List.{List}
 use Prim.Native.Nat.{ℕ}

@@ -1,14 +1,12 @@
 -- "record chains, the free one included, ending, disjoint and together all 64, no (thread, address) twice in one arbiter's".
 -- A record on the free chain is blank, as all that is unused.
-use mathlib.Core.Path.{_≡_, ap, sym, subst, _∙_}
+use mathlib.Core.Path.{_≡_, sym, subst}
 use mathlib.Core.Bool.{Bool, true, false, not}
-use mathlib.Core.Logic.{_⊎_, inl, inr}
 use mathlib.Core.List.{List, [], _∷_}
-use Prim.Native.Nat.{ℕ, _+_, _≤_, _<_}
-use native.Mathlib.Omega.{arith}
+use Prim.Native.Nat.{ℕ, _<_}
 use lib.Dec.{eqb, ltb}
 use lib.ListN.{length}
-use Rattle.laws.specs.Logic.{_and_, _or_, lt-cases}
+use Rattle.laws.specs.Logic.{_and_, _or_}
 use Rattle.laws.specs.Test.{Test, t-yes, t-eq, t-lt, t-and, t-as, t-not}
 use Rattle.laws.specs.Numbers.{allTo}
 use Rattle.laws.specs.Count.{at}
@@ -16,7 +14,6 @@ use Rattle.laws.specs.Walk.{walk, walk-zero}
 use Rattle.laws.specs.Pool.{Pool}
 use Rattle.laws.specs.PoolTest.{pool?, t-pool}
 use Rattle.types.specs.declared.object.Slot.{Slot}
-use Rattle.types.specs.declared.object.Waiter.{Waiter}
 use Rattle.types.specs.declared.object.ObjectStore.{ObjectStore}
 use Rattle.types.specs.Object.{headOf}
 use Rattle.sound.specs.View.{heads, waiterNexts, waiterThreads, waiterAddresses, noSlot, slotAt, objectAt, t-slots}

@@ -1,11 +1,11 @@
 -- Question 2 as a whole, on a state: the test of all clauses, and what a sound state is. A block is also asked to be the encoding of what it decodes to.
-use mathlib.Core.Path.{_≡_, refl, ap, sym, _∙_}
-use mathlib.Core.Bool.{Bool, true, false}
-use mathlib.Core.Logic.{_⊎_, inl, inr}
+use mathlib.Core.Path.{_≡_, refl}
+use mathlib.Core.Bool.{Bool}
+use mathlib.Core.Logic.{inl, inr}
 use mathlib.Core.List.{List, [], _∷_}
-use Prim.Native.Nat.{ℕ, zero, suc, _+_, _≤_, _<_}
+use Prim.Native.Nat.{ℕ, zero, suc, _<_}
 use native.Mathlib.Omega.{arith}
-use lib.ListN.{length, getD}
+use lib.ListN.{length}
 use Rattle.laws.specs.Logic.{_and_, and-true, true-and, lt-cases}
 use Rattle.laws.specs.Test.{Test}
 use Rattle.laws.specs.Count.{count, countAll, ind-other}
@@ -13,7 +13,7 @@ use Rattle.types.specs.declared.thread.ThreadOption.{ThreadOption}
 use Rattle.types.specs.declared.thread.Thread.{Thread}
 use Rattle.types.specs.declared.kernel.Kernel.{Kernel}
 use Rattle.block.proofs.Fits.{StateFits}
-use Rattle.sound.specs.View.{ids, lists, noThread, threadAt}
+use Rattle.sound.specs.View.{ids, lists, threadAt}
 use Rattle.sound.specs.Threads.{Zeros, Places, PlaceOk, threads?, ThreadsOk, t-threads}
 use Rattle.sound.specs.Tls.{tls?, TlsOk, t-tls}
 use Rattle.sound.specs.Handles.{rising?, Rising, t-rising, rising-far}

@@ -2,14 +2,13 @@
 -- Known statuses are asked by the canonical test of the block.
 use mathlib.Core.Path.{_≡_, refl, ap, sym, _∙_}
 use mathlib.Core.Bool.{Bool, true, false, not}
-use mathlib.Core.Logic.{_≢_, _⊎_, inl, inr}
+use mathlib.Core.Logic.{_≢_}
 use mathlib.Core.List.{List, [], _∷_}
-use Prim.Native.Nat.{ℕ, zero, suc, _+_, _≤_, _<_}
+use Prim.Native.Nat.{ℕ, zero, suc, _≤_, _<_}
 use native.Mathlib.Omega.{arith}
 use lib.Dec.{eqb, leb, ltb}
-use borrow.Author.Tests.{ltb-true, ltb-false, lt-ltb, le-ltb}
-use lib.ListN.{length, getD, List·getD-eq-default}
-use Rattle.laws.specs.Logic.{pick, _and_, lt-cases, false-true}
+use borrow.Author.Tests.{ltb-true, ltb-false}
+use Rattle.laws.specs.Logic.{pick, _and_, false-true}
 use Rattle.laws.specs.Test.{Test, t-yes, t-no, t-never, t-eq, t-le, t-lt, t-and, t-as, t-not}
 use Rattle.laws.specs.Numbers.{allBelow, t-allBelow}
 use Rattle.types.specs.declared.thread.ThreadOption.{ThreadOption}
@@ -18,7 +17,7 @@ use Rattle.types.specs.declared.thread.ThreadStatus.{ThreadStatus}
 use Rattle.types.specs.declared.thread.ThreadStatus.the-variants.{Dead, Running, Ready, Sleeping, WaitSync, WaitArbiter, Dormant}
 use Rattle.types.specs.declared.thread.Thread.{Thread}
 use Rattle.block.specs.Thread.{threadWords, wordsList}
-use Rattle.sound.specs.View.{ids, threadAt, noThread}
+use Rattle.sound.specs.View.{ids, threadAt}
 
 -- ---- all zero
 abbrev pub Zeros : List ℕ → Type 0

@@ -21,7 +21,7 @@ use Rattle.types.specs.declared.kernel.Kernel.{Kernel}
 use Rattle.types.specs.Thread.{isDead, statusNumber}
 use Rattle.codec.proofs.Fit.{_&_}
 use Rattle.block.proofs.Fits.{ThreadFits}
-use Rattle.sound.specs.View.{ids, waiterThreads, waiterAddresses, slotAt, objectAt, threadAt}
+use Rattle.sound.specs.View.{ids, waiterThreads, waiterAddresses, objectAt, threadAt}
 use Rattle.sound.specs.Threads.{Zeros, Blank, PlaceOk, CurrentOk, ThreadsOk}
 use Rattle.sound.specs.Tls.{held}
 use Rattle.sound.specs.Objects.{names, keptAt, Live, ContentOk, Each}

@@ -1,6 +1,6 @@
 -- What holds of every object stays so under each primitive, if what the primitive writes has it.
 use mathlib.Core.Bool.{Bool, true, false}
-use mathlib.Core.List.{List, [], _∷_, map}
+use mathlib.Core.List.{List, [], _∷_}
 use Prim.Native.Nat.{ℕ, zero, suc}
 use lib.Dec.{eqb, leb}
 use lib.ListN.{set}
@@ -10,13 +10,12 @@ use Rattle.types.specs.declared.thread.ThreadOption.the-variants.{NoThread, Som
 use Rattle.types.specs.declared.thread.Thread as th
 use Rattle.types.specs.declared.object.KObject.{KObject}
 use Rattle.types.specs.declared.object.KObject.the-variants.{Free, Thread, Event, Mutex, Semaphore, Timer, AddressArbiter, Process, ResourceLimit}
-use Rattle.types.specs.declared.object.Slot.{Slot}
 use Rattle.types.specs.declared.object.HandleTable.{HandleTable}
 use Rattle.types.specs.declared.object.ObjectStore.{ObjectStore}
 use Rattle.sound.specs.View.{slotAt, objectAt, waiterThreads, waiterAddresses}
 use Rattle.sound.specs.Objects.{keptAt, ContentOk, Each}
 use Rattle.sound.specs.Records.{chainOf, has?}
-use Rattle.object.specs.Slots.{withSlots, withKept, withProcess, content}
+use Rattle.object.specs.Slots.{withKept, withProcess}
 use Rattle.object.specs.Waiters.{withHead, retain, ofOthers, dropThread, isArbiter, pushed, push}
 use Rattle.object.specs.Store.{isFree, insert, addRef, addRefs, release-if, release, releases}
 use Rattle.object.specs.declared.handles.Both.{Both}

@@ -3,11 +3,10 @@ use mathlib.Core.Path.{_≡_, refl, ap, sym, subst, _∙_}
 use mathlib.Core.Bool.{Bool, true, false}
 use mathlib.Core.Logic.{_≢_, inl, inr}
 use mathlib.Core.List.{List, [], _∷_, map}
-use Prim.Native.Nat.{ℕ, zero, suc, _+_, _≤_, _<_}
+use Prim.Native.Nat.{ℕ, zero, suc, _+_, _<_}
 use native.Mathlib.Omega.{arith}
-use lib.Dec.{eqb, leb}
 use lib.ListN.{length, set, take, length-set}
-use borrow.Author.Tests.{eqb-true, eqb-false, ne-eqb}
+use borrow.Author.Tests.{eqb-true, eqb-false}
 use Rattle.laws.specs.Logic.{pick}
 use Rattle.laws.specs.All.{All, all-set}
 use Rattle.laws.specs.Count.{count, ind-cases}
@@ -22,27 +21,24 @@ use Rattle.types.specs.declared.sync.Mutex as mu
 use Rattle.types.specs.declared.object.KObject.{KObject}
 use Rattle.types.specs.declared.object.KObject.the-variants.{Free, Thread, Event, Mutex, Semaphore, Timer, AddressArbiter, Process, ResourceLimit}
 use Rattle.types.specs.declared.object.Slot.{Slot}
-use Rattle.types.specs.declared.object.HandleTable.{HandleTable}
-use Rattle.types.specs.declared.object.ObjectStore.{ObjectStore}
 use Rattle.types.specs.declared.kernel.Kernel.{Kernel}
 use Rattle.types.specs.Thread.{isDead, threadValue}
 use Rattle.block.proofs.Enums.{status-fits, result-fits, syscall-fits, thread-flag-fits}
-use Rattle.block.proofs.Fits.{SlotFits, ThreadFits}
+use Rattle.block.proofs.Fits.{ThreadFits}
 use Rattle.sound.specs.View.{ids, slotAt, objectAt, threadAt}
-use Rattle.sound.specs.Threads.{Zeros, Places, Only, isCurrent, RunOk, ThreadOk, PlaceOk, CurrentOk, ThreadsOk}
-use Rattle.sound.specs.Objects.{names, Live, OwnerOk, ContentOk, Each}
+use Rattle.sound.specs.Threads.{Zeros, Places, Only, isCurrent, RunOk, ThreadOk, CurrentOk}
+use Rattle.sound.specs.Objects.{names, Live, OwnerOk, ContentOk}
 use Rattle.sound.specs.Sound.{Sound, zeros-count}
 use Rattle.object.specs.Slots.{withSlots, withObject}
-use Rattle.object.specs.Store.{releases}
 use Rattle.thread.specs.Thread.{clearWait}
-use Rattle.thread.specs.Threads.{endWait, disownedMutex, disowned, disownedSlots, disown, ended, leftBy, endThread}
+use Rattle.thread.specs.Threads.{endWait, disowned, disown, ended, leftBy, endThread}
 use Rattle.soundness.specs.Objects.{ObOk, ok-as, contents-ok, shapeOf, releases-full, releases-overflow}
 use Rattle.soundness.specs.Names.{places-count, places-pos}
 use Rattle.soundness.specs.Waits.{names-set, same-wait-ok, end-wait-ok}
 use Rattle.soundness.specs.Same.{contents-same}
 use Rattle.soundness.specs.Records.{chains-same, releases-chains}
 use Rattle.soundness.specs.Each.{each-releases, content-free}
-use Rattle.soundness.specs.Fits.{Word, StoreFits, KeepsFit, z4, z8, slot-of, of-slot, all-slots, withSlots-fits, releases-fits}
+use Rattle.soundness.specs.Fits.{Word, KeepsFit, z4, z8, slot-of, of-slot, all-slots, withSlots-fits, releases-fits}
 use Rattle.soundness.specs.Tls.{tls-ended, tls-same}
 use Rattle.soundness.specs.Threads.{thread-same, thread-other, threads-set, content-more, live-ended}
 use Rattle.soundness.specs.Whole.{Parts, sound-parts, parts-sound}

@@ -28,7 +28,7 @@ use Rattle.block.proofs.Fits.{IdFits, EntryFits, WaiterFits, SlotFits}
 use Rattle.sound.specs.View.{waiterNexts, waiterThreads, waiterAddresses, noSlot, slotAt, objectAt}
 use Rattle.sound.specs.Objects.{keptAt}
 use Rattle.sound.specs.Records.{chainOf, has?}
-use Rattle.object.specs.Slots.{slotPut, withSlots, withKept, withProcess, content}
+use Rattle.object.specs.Slots.{slotPut, withSlots, withKept, withProcess}
 use Rattle.object.specs.declared.waiters.Links.{Links}
 use Rattle.object.specs.Waiters.{noWaiter, waiterAt, link, unlink, withHead, unlinked, retain, ofOthers, dropThread, lastOf, firstOf, isArbiter, pushed, push}
 use Rattle.object.specs.Store.{isFree, insert, addRef, addRefs, release-if, release, releases}

@@ -26,7 +26,7 @@ use Rattle.object.specs.Handles.{noEntry, placeOf, objectOf}
 use Rattle.object.specs.Kept.{threadObject, processObject, ofCurrent, resolve}
 use Rattle.soundness.specs.Slots.{map-set}
 use Rattle.soundness.specs.Objects.{ObOk, Fine, store-as, get-count, kept-thread-named, kept-process-named, insert-full, insert-ok, inserted, insert-stay, insert-kept}
-use Rattle.soundness.specs.Same.{SameRecs, same-refl, same-trans, insert-same}
+use Rattle.soundness.specs.Same.{SameRecs, same-refl, insert-same}
 
 -- ---- an object was found, perhaps made: from the store s to s′, the object o
 pub record Found (s : ObjectStore) (f : ℕ → ℕ) (s′ : ObjectStore) (o : ℕ) : Type 0 where

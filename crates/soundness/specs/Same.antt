@@ -10,7 +10,7 @@ use Rattle.types.specs.declared.object.ObjectStore.{ObjectStore}
 use Rattle.types.specs.Object.{headOf}
 use Rattle.sound.specs.View.{waiterNexts, objectAt}
 use Rattle.sound.specs.Records.{chainOf}
-use Rattle.object.specs.Slots.{slotPut, withSlots, content}
+use Rattle.object.specs.Slots.{withSlots, content}
 use Rattle.object.specs.Store.{isFree, insert, addRef, addRefs}
 use Rattle.soundness.specs.Slots.{pick-both, headAt, slot-f}
 use Rattle.soundness.specs.Objects.{Shape, shapeOf, ObOk, slotAt-map, free-head, free-kind}

@@ -1,16 +1,14 @@
 -- The thread table after one place is changed: who may run, lists, names, and what objects say of threads.
-use mathlib.Core.Path.{_≡_, refl, ap, sym, subst, _∙_}
-use mathlib.Core.Bool.{Bool, true, false}
-use mathlib.Core.Logic.{_≢_, _⊎_, inl, inr}
-use mathlib.Core.List.{List, [], _∷_, map}
-use Prim.Native.Nat.{ℕ, zero, suc, _+_, _-_, _≤_, _<_}
+use mathlib.Core.Path.{_≡_, sym, subst}
+use mathlib.Core.Bool.{true, false}
+use mathlib.Core.Logic.{_≢_, inl, inr}
+use mathlib.Core.List.{List}
+use Prim.Native.Nat.{ℕ, _-_, _≤_, _<_}
 use native.Mathlib.Omega.{arith}
-use lib.Dec.{eqb, ltb}
-use lib.ListN.{length, getD, set, replicate}
+use lib.ListN.{length, set}
 use lib.Seq.{getD-set-same, getD-set-other}
-use borrow.Author.Tests.{eqb-true, eqb-false, ltb-true, ltb-false}
-use Rattle.laws.specs.Logic.{pick, lt-cases}
-use Rattle.laws.specs.Count.{count, countAll, ind, ind-cases, ind-other}
+use Rattle.laws.specs.Logic.{lt-cases}
+use Rattle.laws.specs.Count.{ind-cases}
 use Rattle.types.specs.declared.thread.ThreadOption.{ThreadOption}
 use Rattle.types.specs.declared.thread.ThreadOption.the-variants.{NoThread, SomeThread}
 use Rattle.types.specs.declared.thread.ThreadStatus.{ThreadStatus}
@@ -20,8 +18,8 @@ use Rattle.types.specs.declared.object.KObject.{KObject}
 use Rattle.types.specs.declared.object.KObject.the-variants.{Free, Thread, Event, Mutex, Semaphore, Timer, AddressArbiter, Process, ResourceLimit}
 use Rattle.types.specs.declared.object.HandleTable.{HandleTable}
 use Rattle.types.specs.Thread.{isDead}
-use Rattle.sound.specs.View.{ids, lists, noThread, threadAt}
-use Rattle.sound.specs.Threads.{Zeros, Places, Only, RunOk, ThreadOk, Blank, PlaceOk, CurrentOk, ThreadsOk}
+use Rattle.sound.specs.View.{ids, noThread, threadAt}
+use Rattle.sound.specs.Threads.{Zeros, Places, Only, RunOk, PlaceOk, CurrentOk, ThreadsOk}
 use Rattle.sound.specs.Objects.{names, Live, OwnerOk, ContentOk}
 use Rattle.sound.specs.Sound.{zeros-count}
 use Rattle.soundness.specs.Names.{waits-set}

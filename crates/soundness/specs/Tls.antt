@@ -1,21 +1,20 @@
 -- TLS slots: a new thread gets one that no live thread holds, and the next stays at most 32; an ended thread gives its own back.
-use mathlib.Core.Path.{_≡_, refl, ap, sym, subst, _∙_}
+use mathlib.Core.Path.{_≡_, refl, ap, subst}
 use mathlib.Core.Bool.{Bool, true, false}
-use mathlib.Core.Logic.{_≢_, _⊎_, inl, inr}
+use mathlib.Core.Logic.{inl, inr}
 use mathlib.Core.List.{List, [], _∷_}
 use Prim.Native.Nat.{ℕ, zero, suc, _+_, _-_, _≤_, _<_}
 use native.Mathlib.Omega.{arith}
-use native.Mathlib.Numerals.{add-one}
 use lib.Dec.{eqb, ltb}
-use lib.ListN.{length, getD, set}
+use lib.ListN.{length, set}
 use borrow.Author.Tests.{eqb-true, eqb-false, ltb-true, ltb-false}
 use Rattle.laws.specs.Logic.{pick, lt-cases}
 use Rattle.laws.specs.All.{All, all-as}
-use Rattle.laws.specs.Count.{count, ind, ind-cases, ind-same, ind-other}
+use Rattle.laws.specs.Count.{count, ind, ind-cases, ind-other}
 use Rattle.types.specs.declared.thread.Thread.{Thread}
 use Rattle.types.specs.declared.kernel.Kernel.{Kernel}
 use Rattle.types.specs.Thread.{isDead}
-use Rattle.sound.specs.View.{noThread, threadAt}
+use Rattle.sound.specs.View.{threadAt}
 use Rattle.sound.specs.Tls.{heldIf, held, if-length, held-length, far, TlsOk}
 use Rattle.tally.specs.Lists.{slotOf}
 use Rattle.thread.specs.Threads.{least, freeFrom, tlsSlot}

@@ -4,7 +4,7 @@ use mathlib.Core.List.{List, [], _∷_}
 use Prim.Native.Nat.{ℕ}
 use lib.Dec.{eqb}
 use lib.ListN.{getD, length, set}
-use Rattle.laws.specs.Logic.{pick, _or_}
+use Rattle.laws.specs.Logic.{pick}
 use Rattle.units.specs.Ticks.{nanosToTicks}
 use Rattle.types.specs.declared.thread.ThreadOption.{ThreadOption}
 use Rattle.types.specs.declared.thread.ThreadOption.the-variants.{NoThread, SomeThread}

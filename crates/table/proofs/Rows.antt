@@ -8,7 +8,7 @@ use lib.Dec.{eqb}
 use lib.ListN.{length, getD, drop, drop-of-length-le}
 use lib.Seq.{drop-cons}
 use borrow.Author.Tests.{eq-eqb, ne-eqb}
-use Rattle.laws.specs.Logic.{pick-yes, pick-no, _or_, or-yes, or-no}
+use Rattle.laws.specs.Logic.{pick-yes, pick-no, or-yes, or-no}
 use Rattle.svc.specs.declared.CallRow.{CallRow}
 use Rattle.svc.specs.Table.{row, rowIn, knownIn}
 

@@ -5,8 +5,7 @@ pub mod registers;
 
 use svc::CallRow;
 ghost use mathlib.Core.Path.{_≡_};
-ghost use Prim.Native.Nat.{_+_, _-_, _<_, _≤_};
-ghost use lib.ListN.{drop};
+ghost use Prim.Native.Nat.{_+_, _-_, _<_};
 ghost use Rattle.svc.specs.Table as def;
 
 const CALLS: [CallRow; 21] = [

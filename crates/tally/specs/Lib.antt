@@ -1,3 +1,4 @@
 -- The definitions that the contracts of `tally` cite.
 pub mod Lists
 pub mod Columns
+pub mod Place

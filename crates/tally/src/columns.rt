@@ -1,7 +1,7 @@
 // The columns of the table of records.
 use types::object::Waiter;
 ghost use mathlib.Core.Path.{_≡_};
-ghost use Prim.Native.Nat.{_+_, _≤_};
+ghost use Prim.Native.Nat.{_+_};
 ghost use lib.ListN.{length};
 ghost use Rattle.sound.specs.View.{waiterNexts, waiterThreads, waiterAddresses};
 

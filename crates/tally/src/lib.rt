@@ -1,10 +1,11 @@
 // Counting into an array: how often each number is named.
 pub mod columns;
+pub mod place;
 
 use types::thread::Thread;
 use units::ObjectId;
 ghost use mathlib.Core.Path.{_≡_};
-ghost use Prim.Native.Nat.{_+_, _≤_};
+ghost use Prim.Native.Nat.{_+_};
 ghost use lib.ListN.{length};
 ghost use Rattle.laws.specs.Tally.{bump, tally};
 ghost use Rattle.sound.specs.Tls.{held};

@@ -17,7 +17,8 @@ use Rattle.types.specs.declared.object.ObjectStore.{ObjectStore}
 use Rattle.types.specs.declared.kernel.Kernel.{Kernel}
 use Rattle.sound.specs.Tls.{held}
 use Rattle.thread.specs.Threads.{least, freeFrom, tlsSlot, releaseWaits}
-use Rattle.thread.specs.Marks.{least-le, freeMarked, slotIndex, ended?, idAt, endedIn}
+use Rattle.tally.specs.Place.{slotIndex}
+use Rattle.thread.specs.Marks.{least-le, freeMarked, ended?, idAt, endedIn}
 
 pub free-step : (m : List ℕ) (n i : ℕ) → i < n → freeMarked m (n - i) i ≡ pick (eqb (getD m i 0) 0) i (freeMarked m (n - (i + 1)) (i + 1))
 unfolding freeMarked

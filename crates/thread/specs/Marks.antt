@@ -1,23 +1,23 @@
 -- TLS slots and ended threads as they are looked for: slots are counted into an array, and a slot is looked at by a safe index.
-use mathlib.Core.Path.{_≡_, refl, ap, sym, _∙_}
+use mathlib.Core.Path.{_≡_, refl, ap, sym}
 use mathlib.Core.Bool.{Bool, true, false}
-use mathlib.Core.Logic.{_⊎_, inl, inr}
 use mathlib.Core.List.{List}
 use Prim.Native.Nat.{ℕ, zero, suc, _+_, _-_, _≤_}
 use native.Mathlib.Omega.{arith}
 use lib.Dec.{eqb, leb, ltb}
-use lib.ListN.{length, getD, replicate, length-map}
-use borrow.Author.Tests.{eq-eqb, ne-eqb, lt-ltb, le-ltb, eqb-true, eqb-false, ltb-true, ltb-false}
-use Rattle.laws.specs.Logic.{pick, _and_, _or_, lt-cases}
+use lib.ListN.{length, getD, replicate}
+use borrow.Author.Tests.{eqb-false, ltb-true, ltb-false}
+use Rattle.laws.specs.Logic.{pick, _and_, _or_}
 use Rattle.laws.specs.Count.{count}
 use Rattle.laws.specs.Tally.{tally, tally-get, zero-get, zero-le}
 use Rattle.units.specs.declared.ObjectId.{ObjectId}
+use Rattle.tally.specs.Place.{slotIndex}
 use Rattle.types.specs.declared.thread.Thread.{Thread}
 use Rattle.types.specs.declared.object.Slot.{Slot}
 use Rattle.types.specs.declared.object.ObjectStore.{ObjectStore}
 use Rattle.types.specs.declared.kernel.Kernel.{Kernel}
 use Rattle.types.specs.Thread.{isDead}
-use Rattle.sound.specs.View.{ids, threadAt, slotAt, noSlot, slotAt-pos, slotAt-out}
+use Rattle.sound.specs.View.{threadAt, slotAt, noSlot, slotAt-pos, slotAt-out}
 use Rattle.sound.specs.Tls.{held, held-length}
 use Rattle.sound.specs.Objects.{keptAt}
 use Rattle.object.specs.Store.{refcount}
@@ -53,9 +53,6 @@ free-is ts e (suc n) s h =
     rw (g, free-is ts e n (s + 1) (omega arith))
 
 -- ---- ended threads
-unfoldable pub slotIndex : ℕ → ℕ
-slotIndex x = pick (eqb x 0) 0 (pick (ltb 128 x) 0 (x - 1))
-
 unfoldable pub unnamed? : ℕ → Slot → Bool
 unnamed? x s = eqb x 0 or (ltb 128 x or leb (s .refcount) 1)
 

@@ -1,6 +1,6 @@
 -- `Thread::new`, `ThreadContext::new` and `clear_wait` of thread.rs.
-use mathlib.Core.Bool.{Bool, true, false}
-use mathlib.Core.List.{List, [], _∷_}
+use mathlib.Core.Bool.{true, false}
+use mathlib.Core.List.{[], _∷_}
 use Prim.Native.Nat.{ℕ, _+_, _-_, _*_, _/_, _%_}
 use lib.ListN.{replicate}
 use Rattle.types.specs.declared.thread.TickOption.the-variants.{NoTick}

@@ -1,13 +1,13 @@
 -- The thread part of mod.rs: TLS slots, places, making and ending a thread.
-use mathlib.Core.Bool.{Bool, true, false}
-use mathlib.Core.List.{List, [], _∷_, map}
-use Prim.Native.Nat.{ℕ, zero, suc, _+_, _-_}
+use mathlib.Core.Bool.{Bool}
+use mathlib.Core.List.{List, map}
+use Prim.Native.Nat.{ℕ, zero, suc, _+_}
 use lib.Dec.{eqb, leb, ltb}
-use lib.ListN.{getD, set, take}
+use lib.ListN.{set, take}
 use Rattle.laws.specs.Logic.{pick, _and_, _or_}
 use Rattle.laws.specs.Count.{count}
 use Rattle.types.specs.declared.thread.ThreadOption.{ThreadOption}
-use Rattle.types.specs.declared.thread.ThreadOption.the-variants.{NoThread, SomeThread}
+use Rattle.types.specs.declared.thread.ThreadOption.the-variants.{NoThread}
 use Rattle.types.specs.declared.thread.ThreadStatus.the-variants.{Dead}
 use Rattle.types.specs.declared.thread.WaitResult.the-variants.{NoResult}
 use Rattle.types.specs.declared.thread.WaitSyscall.the-variants.{NoSyscall}

@@ -12,7 +12,7 @@ use units::ObjectId;
 ghost use mathlib.Core.Path.{_≡_};
 ghost use Prim.Native.Nat.{_+_, _-_, _<_, _≤_};
 ghost use lib.Dec.{ltb, leb};
-ghost use lib.ListN.{length, set};
+ghost use lib.ListN.{set};
 ghost use Rattle.laws.specs.Logic.{pick, _or_};
 ghost use Rattle.thread.specs.Threads as def;
 

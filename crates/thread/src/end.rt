@@ -12,10 +12,9 @@ use types::thread::ThreadStatus;
 use types::thread::WaitResult;
 use types::thread::WaitSyscall;
 ghost use mathlib.Core.Path.{_≡_};
-ghost use Prim.Native.Nat.{_+_, _-_, _<_, _≤_};
-ghost use lib.ListN.{length, set};
+ghost use Prim.Native.Nat.{_+_, _-_, _<_};
+ghost use lib.ListN.{set};
 ghost use Rattle.sound.specs.View.{threadAt};
-ghost use Rattle.sound.specs.Threads.{isCurrent};
 ghost use Rattle.object.specs.Slots.{withObject};
 ghost use Rattle.thread.specs.Thread.{clearWait};
 ghost use Rattle.thread.specs.Threads as def;
@@ -33,20 +32,11 @@ fn release_waits(s: ObjectStore, ts: [Thread; 32], t: u32) -> ObjectStore
     store::release_list(s, list, old.wait_count)
 }
 
-fn is_current(w: ThreadOption, t: u32) -> bool
-    ensures { λ r. ⌜ r ≡ isCurrent w t ⌝ }
-{
-    match w {
-        ThreadOption::NoThread => false,
-        ThreadOption::SomeThread(u) => u == t,
-    }
-}
-
 fn disowned_mutex(t: u32, m: Mutex) -> Mutex
     ensures { λ r. ⌜ r ≡ def.disownedMutex t m ⌝ }
 {
     let w = m.owner;
-    if is_current(w, t) {
+    if sound::is_current(w, t) {
         return Mutex {
             owner: ThreadOption::NoThread,
             lock_count: 0,
@@ -99,7 +89,7 @@ fn disown(s: ObjectStore, t: u32) -> ObjectStore
 fn left_by(w: ThreadOption, t: u32) -> ThreadOption
     ensures { λ r. ⌜ r ≡ def.leftBy w t ⌝ }
 {
-    if is_current(w, t) {
+    if sound::is_current(w, t) {
         return ThreadOption::NoThread;
     }
     w

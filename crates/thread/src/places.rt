@@ -8,7 +8,7 @@ ghost use mathlib.Core.Path.{_≡_};
 ghost use Prim.Native.Nat.{_+_, _-_, _<_, _≤_};
 ghost use lib.ListN.{length};
 ghost use Rattle.thread.specs.Threads.{least, tlsSlot, endedThread};
-ghost use Rattle.thread.specs.Marks.{freeMarked, slotIndex, unnamed?, ended?, endedIn};
+ghost use Rattle.thread.specs.Marks.{freeMarked, unnamed?, ended?, endedIn};
 
 pub fn least_of(a: u32, b: u32) -> u32
     ensures { λ r. ⌜ r ≡ least a b ⌝ }
@@ -44,20 +44,6 @@ pub fn tls_slot(k: Kernel) -> u32
     free_slot(m, least_of(k.next_tls_slot, 32))
 }
 
-// An index to look at for the object x: its slot, or the first one if it has none.
-pub fn slot_index(x: u32) -> usize
-    ensures { λ r. ⌜ r ≡ slotIndex x ⌝ }
-    ensures { λ r. ⌜ r < 128 ⌝ }
-{
-    if x == 0 {
-        return 0;
-    }
-    if 128 < x {
-        return 0;
-    }
-    (x - 1) as usize
-}
-
 // No handle or wait names the kept object x, whose slot is s.
 fn is_unnamed(x: u32, s: Slot) -> bool
     ensures { λ r. ⌜ r ≡ unnamed? x s ⌝ }
@@ -91,7 +77,7 @@ fn first_ended(ts: [Thread; 32], kept: [ObjectId; 32], slots: [Slot; 128], n: u3
     while i < n {
         let o = kept[i as usize];
         let x = o.0;
-        if is_ended(ts[i as usize], x, slots[slot_index(x)]) {
+        if is_ended(ts[i as usize], x, slots[tally::place::slot_index(x)]) {
             return i;
         }
         i += 1;

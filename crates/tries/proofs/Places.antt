@@ -3,13 +3,13 @@ use mathlib.Core.Path.{_≡_, refl, ap, sym, _∙_}
 use mathlib.Core.Bool.{Bool, true, false}
 use mathlib.Core.Logic.{_≢_, inl, inr}
 use mathlib.Core.List.{List}
-use Prim.Native.Nat.{ℕ, zero, suc, _+_, _-_, _≤_, _<_}
+use Prim.Native.Nat.{ℕ, zero, suc, _-_, _<_}
 use native.Mathlib.Omega.{arith}
-use lib.Dec.{eqb, leb, ltb}
+use lib.Dec.{leb, ltb}
 use lib.ListN.{length, getD, set, length-set}
 use lib.Seq.{set-getD}
-use borrow.Author.Tests.{eq-eqb, ne-eqb, le-ltb, lt-ltb, lt-leb, le-leb, ltb-true, ltb-false, leb-true, leb-false}
-use Rattle.laws.specs.Logic.{pick, pick-yes, pick-no, _and_, _or_, true-and, false-true, lt-cases}
+use borrow.Author.Tests.{eq-eqb, ne-eqb, le-ltb, lt-ltb, ltb-true, ltb-false, leb-true, leb-false}
+use Rattle.laws.specs.Logic.{pick, pick-yes, pick-no, _and_, true-and, false-true, lt-cases}
 use Rattle.laws.specs.Walk.{walk, walk-nil}
 use Rattle.types.specs.declared.object.KObject.the-variants.{Free}
 use Rattle.types.specs.declared.object.Slot.{Slot}
@@ -20,9 +20,9 @@ use Rattle.object.specs.Slots.{slotPut, withSlots, withRefcount}
 use Rattle.object.specs.Store.{isFree, release, release-if}
 use Rattle.object.specs.Waiters.{unlink}
 use Rattle.object.proofs.Laws.{slotPut-pos}
-use Rattle.thread.specs.Marks.{slotIndex}
+use Rattle.tally.specs.Place.{isSlot, slotIndex}
 use Rattle.pass.specs.Signal.{acquire, withOverflow}
-use Rattle.tries.specs.Change.{isSlot, takenSlot, takenOver, held, lastHeld, unlinks, leftSlot, leftFree}
+use Rattle.tries.specs.Change.{takenSlot, takenOver, unlinks, leftSlot, leftFree}
 use Rattle.acquire.proofs.Acquires.{slot-in, acquire-in, acquire-out}
 
 -- a slot's number has the place before it

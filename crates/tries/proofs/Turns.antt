@@ -18,7 +18,7 @@ use Rattle.sound.specs.View.{ids, noSlot, noThread, slotAt, threadAt}
 use Rattle.object.specs.Slots.{withSlots, withObject}
 use Rattle.object.specs.Store.{release, releases}
 use Rattle.object.proofs.Laws.{list-at, list-end, kept-in, or-end}
-use Rattle.thread.specs.Marks.{slotIndex}
+use Rattle.tally.specs.Place.{isSlot, slotIndex}
 use Rattle.pass.specs.declared.IndexOption.{IndexOption}
 use Rattle.pass.specs.declared.IndexOption.the-variants.{NoIndex, SomeIndex}
 use Rattle.pass.specs.declared.Fate.{Fate}
@@ -30,7 +30,7 @@ use Rattle.pass.specs.Waits.{waitedObjects, fateAs, fate, tryAs, tryWait, tryWa
 use Rattle.pass.specs.Schedule.{tried}
 use Rattle.acquire.specs.Takes.{changes, acquired-same, fits-same}
 use Rattle.wait.specs.Looks.{asWanted, firstWhere, endFor, orIndex, looked, namedIndex, look-is, indexFor, index-is}
-use Rattle.tries.specs.Change.{isSlot, takenSlot, takenOver, held, countsDown, lastHeld, unlinks, leftSlot, leftFree}
+use Rattle.tries.specs.Change.{takenSlot, takenOver, held, countsDown, lastHeld, unlinks, leftSlot, leftFree}
 use Rattle.tries.specs.Change as change
 use Rattle.tries.specs.Tries.{takes, leaves, after, isOver, fromAny, toAny, takenFrom, takenTo, leftTo}
 use Rattle.wait.proofs.Steps.{noId, ids-far}

@@ -1,7 +1,7 @@
 -- One slot as a wait takes its object or lets go of it; a number that no slot has changes none.
 use mathlib.Core.Bool.{Bool}
 use Prim.Native.Nat.{ℕ, _-_}
-use lib.Dec.{eqb, leb, ltb}
+use lib.Dec.{leb, ltb}
 use Rattle.laws.specs.Logic.{pick, _and_, _or_}
 use Rattle.types.specs.declared.object.KObject.the-variants.{Free}
 use Rattle.types.specs.declared.object.Slot.{Slot}
@@ -9,9 +9,7 @@ use Rattle.types.specs.Object.{kindNumber, headOf}
 use Rattle.object.specs.Slots.{withObject, withRefcount}
 use Rattle.pass.specs.Signal.{acquired, acquireOver}
 use Rattle.acquire.specs.Takes.{changes}
-
-abbrev pub isSlot : ℕ → Bool
-isSlot k = ltb 0 k and ltb k 129
+use Rattle.tally.specs.Place.{isSlot}
 
 -- ---- `acquire`
 abbrev pub takenSlot : ℕ → Slot → ℕ → Slot

@@ -2,23 +2,14 @@
 use types::object::KObject;
 use types::object::Slot;
 ghost use mathlib.Core.Path.{_≡_};
-ghost use Prim.Native.Nat.{_-_, _<_, _≤_};
+ghost use Prim.Native.Nat.{_-_, _<_};
 ghost use Rattle.tries.specs.Change as def;
-
-fn is_slot(k: u32) -> bool
-    ensures { λ r. ⌜ r ≡ def.isSlot k ⌝ }
-{
-    if k == 0 {
-        return false;
-    }
-    k < 129
-}
 
 // Whether taking the object changes anything.
 pub fn takes(k: u32, x: Slot) -> bool
     ensures { λ r. ⌜ r ≡ def.takes k x ⌝ }
 {
-    if !is_slot(k) {
+    if !tally::place::is_slot(k) {
         return false;
     }
     let o = x.object;
@@ -28,7 +19,7 @@ pub fn takes(k: u32, x: Slot) -> bool
 pub fn taken(k: u32, x: Slot, w: u32) -> Slot
     ensures { λ r. ⌜ r ≡ def.takenSlot k x w ⌝ }
 {
-    if is_slot(k) {
+    if tally::place::is_slot(k) {
         return acquire::acquired_slot(x, w);
     }
     x
@@ -37,7 +28,7 @@ pub fn taken(k: u32, x: Slot, w: u32) -> Slot
 pub fn taken_over(before: bool, k: u32, x: Slot) -> bool
     ensures { λ r. ⌜ r ≡ def.takenOver before k x ⌝ }
 {
-    if is_slot(k) {
+    if tally::place::is_slot(k) {
         return acquire::over_after(before, x);
     }
     before
@@ -46,7 +37,7 @@ pub fn taken_over(before: bool, k: u32, x: Slot) -> bool
 fn held(k: u32, x: Slot) -> bool
     ensures { λ r. ⌜ r ≡ def.held k x ⌝ }
 {
-    if !is_slot(k) {
+    if !tally::place::is_slot(k) {
         return false;
     }
     let o = x.object;

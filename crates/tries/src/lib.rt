@@ -9,7 +9,6 @@ use pass::IndexOption;
 use pass::Waits;
 use signal::pulse;
 use signal::timer;
-use thread::places;
 use types::thread::Thread;
 use types::thread::ThreadStatus;
 use types::thread::WaitResult;
@@ -196,7 +195,7 @@ pub fn try_waits(b: &[u8], tick: u64) -> Waits
         let mut j: usize = 0;
         while j < end {
             let o = list[j];
-            let x = s.slots[places::slot_index(o.0)];
+            let x = s.slots[tally::place::slot_index(o.0)];
             let y = ts[satisfy::named_index(o.0, x)];
             let hit = satisfy::look(want, o.0, x, y, i as u32);
             found = found_at(hit, j as u32);
@@ -208,7 +207,7 @@ pub fn try_waits(b: &[u8], tick: u64) -> Waits
         let mut a = taken_from(f, t.wait_all);
         while a < to {
             let o = list[a];
-            let p = places::slot_index(o.0);
+            let p = tally::place::slot_index(o.0);
             let x = s.slots[p];
             if change::takes(o.0, x) {
                 s.overflow = change::taken_over(s.overflow, o.0, x);
@@ -220,7 +219,7 @@ pub fn try_waits(b: &[u8], tick: u64) -> Waits
         let mut g: usize = 0;
         while g < left {
             let o = list[g];
-            let p = places::slot_index(o.0);
+            let p = tally::place::slot_index(o.0);
             let x = s.slots[p];
             if change::counts_down(o.0, x) {
                 s.slots[p] = change::let_go(o.0, x, s.free);

@@ -1,10 +1,9 @@
 -- Numbers of the enums of sync.rs.
-use mathlib.Core.Bool.{Bool, true, false, cond}
+use mathlib.Core.Bool.{cond}
 use Prim.Native.Nat.{ℕ}
 use lib.Dec.{eqb}
 use Rattle.types.specs.declared.sync.ResetType.{ResetType}
 use Rattle.types.specs.declared.sync.ResetType.the-variants.{OneShot, Sticky, Pulse}
-use Rattle.types.specs.declared.sync.ArbitrationType.{ArbitrationType}
 use Rattle.types.specs.declared.sync.ArbitrationType.the-variants.{Signal, WaitIfLessThan, DecrementAndWaitIfLessThan, WaitIfLessThanWithTimeout, DecrementAndWaitIfLessThanWithTimeout}
 use Rattle.types.specs.declared.sync.ArbitrationOption.{ArbitrationOption}
 use Rattle.types.specs.declared.sync.ArbitrationOption.the-variants.{NoArbitration, SomeArbitration}

@@ -2,11 +2,10 @@
 use mathlib.Core.Path.{_≡_, refl, ap, sym}
 use mathlib.Core.Bool.{Bool, true, false, not}
 use mathlib.Core.List.{List, [], _∷_}
-use mathlib.Core.Logic.{_≢_}
-use Prim.Native.Nat.{ℕ, zero, suc, _+_, _-_, _≤_, _<_}
+use Prim.Native.Nat.{ℕ, _+_, _-_}
 use native.Mathlib.Omega.{arith}
 use lib.Dec.{eqb, ltb}
-use lib.ListN.{length, getD, drop, List·getD-eq-default}
+use lib.ListN.{length, getD, List·getD-eq-default}
 use borrow.Author.Tests.{eqb-true, eqb-false, ltb-true, ltb-false}
 use Rattle.laws.specs.Logic.{pick, _and_, _or_}
 use Rattle.types.specs.declared.thread.Thread as th
@@ -16,7 +15,7 @@ use Rattle.types.specs.declared.object.Slot.{Slot}
 use Rattle.types.specs.declared.object.ObjectStore.{ObjectStore}
 use Rattle.types.specs.Thread.{isDead}
 use Rattle.sound.specs.View.{objectAt, slotAt, noSlot, slotAt-pos, slotAt-out, threadAt, noThread}
-use Rattle.thread.specs.Marks.{slotIndex}
+use Rattle.tally.specs.Place.{slotIndex}
 use Rattle.pass.specs.declared.IndexOption.{IndexOption}
 use Rattle.pass.specs.declared.IndexOption.the-variants.{NoIndex, SomeIndex}
 use Rattle.acquire.specs.Looks.{threadNamed, signaledFor, signaled-is}

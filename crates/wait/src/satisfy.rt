@@ -1,6 +1,5 @@
 // Which of a list's objects satisfies a wait.
 use pass::IndexOption;
-use thread::places;
 use types::object::KObject;
 use types::object::ObjectStore;
 use types::object::Slot;
@@ -8,9 +7,9 @@ use types::thread::Thread;
 use units::ObjectId;
 ghost use mathlib.Core.Path.{_≡_};
 ghost use mathlib.Core.Bool.{true};
-ghost use Prim.Native.Nat.{_+_, _-_, _<_, _≤_};
+ghost use Prim.Native.Nat.{_+_, _-_, _<_};
 ghost use lib.Dec.{ltb};
-ghost use lib.ListN.{length, take};
+ghost use lib.ListN.{take};
 ghost use Rattle.laws.specs.Logic.{pick};
 ghost use Rattle.types.specs.Thread.{isDead};
 ghost use Rattle.sound.specs.View.{ids};
@@ -95,7 +94,7 @@ fn first_in(
             return IndexOption::NoIndex;
         }
         let o = l[i];
-        let x = slots[places::slot_index(o.0)];
+        let x = slots[tally::place::slot_index(o.0)];
         let y = ts[named_index(o.0, x)];
         if look(want, o.0, x, y, w) {
             return IndexOption::SomeIndex(i as u32);

@@ -1,11 +1,10 @@
 use mathlib.Core.Path.{_≡_, _∙_}
-use Prim.Native.Nat.{_+_, _≤_}
+use Prim.Native.Nat.{_+_}
 use lib.ListN.{length}
 use native.Mathlib.Omega.{arith}
 use Rattle.codec.specs.Bytes.{bytes}
 use Rattle.codec.proofs.Laws.{over-next, length-bytes}
 use mathlib.Core.List.{_++_, append-assoc}
-use Rattle.codec.specs.Groups.{twoBytes}
 use lib.ListN.{length-append}
 use borrow.Author.Needs.{needs}
 use borrow.Author.Needs.{needs}

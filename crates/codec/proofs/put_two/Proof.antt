@@ -1,6 +1,4 @@
-use mathlib.Core.Path.{_≡_, _∙_}
-use Prim.Native.Nat.{_+_, _≤_}
-use lib.ListN.{length}
+use mathlib.Core.Path.{_∙_}
 use native.Mathlib.Omega.{arith}
 use Rattle.codec.specs.Bytes.{bytes}
 use Rattle.codec.proofs.Laws.{over-next, length-bytes}

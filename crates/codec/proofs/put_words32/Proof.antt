@@ -5,8 +5,8 @@ use lib.ListN.{length, take}
 use lib.Seq.{take-all}
 use borrow.Author.Needs.{needs}
 use native.Mathlib.Omega.{arith}
-use Rattle.codec.specs.Bytes.{num, bytes, over}
-use Rattle.codec.specs.Layout.{decAll, encAll}
+use Rattle.codec.specs.Bytes.{bytes, over}
+use Rattle.codec.specs.Layout.{encAll}
 use Rattle.codec.proofs.Laws.{over-none, length-bytes}
 use Rattle.codec.proofs.Rows.{write-more}
 use Rattle.codec.proofs.put_words32.Statement.{statement}

@@ -1,10 +1,6 @@
-use borrow.Author.Needs.{needs}
-use mathlib.Core.Path.{_≡_, refl, ap, sym, _∙_}
-use Prim.Native.Nat.{_+_, _-_, _≤_, _<_}
+use Prim.Native.Nat.{_-_}
 use native.Mathlib.Omega.{arith}
-use lib.ListN.{length, drop}
-use Rattle.laws.specs.Logic.{pick, pick-yes, pick-no, or-yes, or-no}
-use borrow.Author.Tests.{lt-ltb, le-ltb, lt-leb, le-leb, eq-eqb, ne-eqb, not-true, not-false}
+use borrow.Author.Tests.{lt-ltb, le-ltb}
 use Rattle.pick.proofs.best_place.Statement.{statement}
 use Rattle.pick.proofs.best_place.Tie as tie
 use Rattle.pick.proofs.best_place.Reads as reads

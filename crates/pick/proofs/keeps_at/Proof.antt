@@ -1,8 +1,8 @@
-use mathlib.Core.Path.{_≡_, refl, ap, sym, _∙_}
+use mathlib.Core.Path.{sym, _∙_}
 use Rattle.pick.proofs.Steps.{far}
 use native.Mathlib.Omega.{arith}
 use Rattle.laws.specs.Logic.{_and_}
-use borrow.Author.Tests.{lt-ltb, le-ltb, lt-leb, le-leb, eq-eqb, ne-eqb, not-true, not-false}
+use borrow.Author.Tests.{not-true, not-false}
 use borrow.Author.Needs.{needs}
 use Rattle.pick.proofs.keeps_at.Statement.{statement}
 use Rattle.pick.proofs.keeps_at.Tie as tie

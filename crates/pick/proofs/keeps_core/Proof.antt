@@ -1,4 +1,3 @@
-use mathlib.Core.Path.{_≡_, refl, ap, sym, _∙_}
 use borrow.Author.Needs.{needs}
 use Rattle.pick.proofs.keeps_core.Statement.{statement}
 use Rattle.pick.proofs.keeps_core.Tie as tie

@@ -1,5 +1,4 @@
-use mathlib.Core.Path.{_≡_, refl, ap, sym, _∙_}
-use borrow.Author.Tests.{lt-ltb, le-ltb, lt-leb, le-leb, eq-eqb, ne-eqb, not-true, not-false}
+use borrow.Author.Tests.{eq-eqb, ne-eqb}
 use Rattle.pick.proofs.option_of.Statement.{statement}
 use Rattle.pick.proofs.option_of.Tie as tie
 use Rattle.pick.proofs.option_of.Reads as reads

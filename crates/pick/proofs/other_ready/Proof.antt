@@ -1,11 +1,11 @@
-use mathlib.Core.Path.{_≡_, refl, ap, sym, _∙_}
+use mathlib.Core.Path.{sym, _∙_}
 use Rattle.laws.specs.Logic.{_and_}
 use borrow.Author.Needs.{needs}
 use Rattle.pick.proofs.other_ready.Statement.{statement}
 use Rattle.pick.proofs.other_ready.Tie as tie
 use Rattle.pick.proofs.other_ready.Reads as reads
 use Rattle.pick.proofs.other_ready.Lts as lts
-use Rattle.pick.proofs.is_current.Reads as is-current-reads
+use Rattle.sound.proofs.is_current.Reads as is-current-reads
 use Rattle.pick.proofs.is_runnable.Reads as is-runnable-reads
 
 is-current-requires : tie.Need-is-current-requires

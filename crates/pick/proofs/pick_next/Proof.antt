@@ -1,9 +1,8 @@
-use mathlib.Core.Path.{_≡_, refl, ap, sym, _∙_}
-use Prim.Native.Nat.{_+_, _-_, _≤_, _<_}
+use mathlib.Core.Path.{_≡_, sym, _∙_}
+use Prim.Native.Nat.{_-_}
 use native.Mathlib.Omega.{arith}
-use lib.ListN.{length, drop}
-use Rattle.laws.specs.Logic.{pick, pick-yes, pick-no, or-yes, or-no}
-use borrow.Author.Tests.{lt-ltb, le-ltb, lt-leb, le-leb, eq-eqb, ne-eqb, not-true, not-false}
+use lib.ListN.{length}
+use borrow.Author.Tests.{lt-leb, le-leb}
 use Rattle.pass.specs.Pick.{startAfter, pickNext}
 use Rattle.pick.proofs.Turns.{cyclic-cut}
 use borrow.Author.Needs.{needs}

@@ -1,10 +1,7 @@
 use borrow.Author.Needs.{needs}
-use mathlib.Core.Path.{_≡_, refl, ap, sym, _∙_}
-use Prim.Native.Nat.{_+_, _-_, _≤_, _<_}
+use mathlib.Core.Path.{_≡_, refl, sym, _∙_}
+use Prim.Native.Nat.{_-_, _≤_}
 use native.Mathlib.Omega.{arith}
-use lib.ListN.{length, drop}
-use Rattle.laws.specs.Logic.{pick, pick-yes, pick-no, or-yes, or-no}
-use borrow.Author.Tests.{lt-ltb, le-ltb, lt-leb, le-leb, eq-eqb, ne-eqb, not-true, not-false}
 use Rattle.types.specs.declared.thread.ThreadOption.the-variants.{NoThread}
 use Rattle.pass.specs.Pick.{otherFrom, pickOther}
 use Rattle.pick.specs.Best.{option}

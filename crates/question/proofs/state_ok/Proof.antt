@@ -1,20 +1,17 @@
-use mathlib.Core.Path.{_≡_, refl, ap, sym, _∙_}
+use mathlib.Core.Path.{sym, _∙_}
 use mathlib.Core.List.{List}
 use Prim.Native.Nat.{ℕ}
 use native.Mathlib.Omega.{arith}
 use borrow.Author.Tests.{not-true, not-false}
-use Rattle.laws.specs.Logic.{_and_, and-no, and-yes}
+use Rattle.laws.specs.Logic.{and-no, and-yes}
 use Rattle.laws.specs.All.{All}
 use Rattle.codec.proofs.Back.{Bytes}
 use Rattle.codec.proofs.Fit.{all-dec, length-decAll}
 use Rattle.block.specs.Table.{decId}
 use Rattle.block.specs.Thread.{decThread}
 use Rattle.block.specs.Block.{decBlock}
-use Rattle.block.specs.Tables.{threadsIn}
 use Rattle.block.proofs.Fits.{block-fits}
 use Rattle.tally.specs.Lists.{Eight}
-use Rattle.sound.specs.Sound.{state?}
-use Rattle.question.specs.LinearObjects.{tables?, store?}
 use Rattle.question.specs.Same.{state-same}
 use borrow.Author.Needs.{needs}
 use Rattle.question.proofs.state_ok.Statement.{statement}

@@ -1,9 +1,7 @@
-use mathlib.Core.Path.{_≡_, ap, sym, _∙_}
-use mathlib.Core.Bool.{true}
+use mathlib.Core.Path.{sym, _∙_}
 use borrow.Author.Tests.{not-true, not-false}
 use Rattle.laws.specs.Logic.{and-no, and-yes, false-true}
 use Rattle.codec.specs.Layout.{decAs}
-use Rattle.types.specs.Thread.{threadOption}
 use Rattle.block.specs.Block.{decBlock}
 use Rattle.question.specs.LinearObjects.{tables?}
 use borrow.Author.Needs.{needs}

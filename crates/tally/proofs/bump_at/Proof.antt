@@ -1,6 +1,3 @@
-use mathlib.Core.Path.{_≡_}
-use Prim.Native.Nat.{_≤_, _<_}
-use lib.ListN.{length}
 use native.Mathlib.Omega.{arith}
 use borrow.Author.Tests.{lt-ltb, le-ltb}
 use Rattle.laws.specs.Tally.{bump}

@@ -1,5 +1,4 @@
-use mathlib.Core.Path.{_≡_, refl, ap, sym, _∙_}
-use borrow.Author.Tests.{lt-ltb, le-ltb, eq-eqb, ne-eqb, le-leb, lt-leb, not-true, not-false}
+use mathlib.Core.Path.{sym, _∙_}
 use Rattle.laws.specs.Tally.{tally}
 use borrow.Author.Needs.{needs}
 use Rattle.tally.proofs.tally_slot.Statement.{statement}

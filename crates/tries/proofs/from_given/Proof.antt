@@ -1,8 +1,4 @@
-use mathlib.Core.Path.{_≡_, refl, ap, sym, _∙_}
-use Prim.Native.Nat.{_+_, _-_, _≤_, _<_}
-use native.Mathlib.Omega.{arith}
-use Rattle.laws.specs.Logic.{pick, _and_, _or_, and-no, and-yes}
-use borrow.Author.Tests.{lt-ltb, le-ltb, lt-leb, le-leb, eq-eqb, ne-eqb, not-true, not-false}
+use Prim.Native.Nat.{_-_}
 use borrow.Author.Needs.{needs}
 use Rattle.tries.proofs.from_given.Statement.{statement}
 use Rattle.tries.proofs.from_given.Tie as tie

@@ -1,8 +1,8 @@
-use mathlib.Core.Path.{_≡_, refl, ap, sym, _∙_}
-use Prim.Native.Nat.{_+_, _-_, _≤_, _<_}
+use mathlib.Core.Path.{_≡_, refl, sym, _∙_}
+use Prim.Native.Nat.{_-_, _≤_}
 use native.Mathlib.Omega.{arith}
 use lib.ListN.{length, drop}
-use Rattle.laws.specs.Logic.{_or_, or-yes, or-no}
+use Rattle.laws.specs.Logic.{or-yes, or-no}
 use Rattle.kernel.specs.NextEvent.{anyBlocked}
 use Rattle.kernel.proofs.Steps.{blocked-step, blocked-end}
 use borrow.Author.Needs.{needs}

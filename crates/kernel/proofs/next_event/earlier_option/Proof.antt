@@ -1,4 +1,4 @@
-use mathlib.Core.Path.{_≡_, refl, ap, sym, _∙_}
+use mathlib.Core.Path.{_∙_}
 use borrow.Author.Needs.{needs}
 use Rattle.kernel.proofs.next_event.earlier_option.Statement.{statement}
 use Rattle.kernel.proofs.next_event.earlier_option.Tie as tie

@@ -1,8 +1,7 @@
-use mathlib.Core.Path.{_≡_, refl, ap, sym, _∙_}
-use Prim.Native.Nat.{_+_, _-_, _≤_, _<_}
+use mathlib.Core.Path.{_≡_, refl, sym, _∙_}
+use Prim.Native.Nat.{_-_, _≤_, _<_}
 use native.Mathlib.Omega.{arith}
 use lib.ListN.{length, drop}
-use mathlib.Core.List.{map}
 use lib.ListN.{take}
 use lib.Seq.{take-all}
 use Rattle.laws.specs.All.{All, all-take-more}

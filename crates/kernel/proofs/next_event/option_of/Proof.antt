@@ -1,6 +1,4 @@
-use mathlib.Core.Path.{_≡_, refl, ap, sym, _∙_}
-use borrow.Author.Tests.{lt-ltb, le-ltb, eq-eqb, ne-eqb, not-true, not-false}
-use borrow.Author.Needs.{needs}
+use borrow.Author.Tests.{eq-eqb, ne-eqb}
 use Rattle.kernel.proofs.next_event.option_of.Statement.{statement}
 use Rattle.kernel.proofs.next_event.option_of.Tie as tie
 use Rattle.kernel.proofs.next_event.option_of.Reads as reads

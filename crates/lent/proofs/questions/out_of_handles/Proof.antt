@@ -1,6 +1,5 @@
 use mathlib.Core.Path.{refl}
 use Rattle.lent.specs.Operations.{outOfHandles?}
-use borrow.Author.Needs.{needs}
 use Rattle.lent.proofs.questions.out_of_handles.Statement.{statement}
 use Rattle.lent.proofs.questions.out_of_handles.Tie as tie
 use Rattle.lent.proofs.questions.out_of_handles.Reads as reads

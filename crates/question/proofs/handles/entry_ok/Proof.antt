@@ -1,4 +1,4 @@
-use borrow.Author.Tests.{lt-ltb, le-ltb, le-leb, lt-leb}
+use borrow.Author.Tests.{lt-ltb, le-leb, lt-leb}
 use native.Mathlib.Omega.{arith}
 use Rattle.laws.specs.Logic.{_and_}
 use Rattle.question.specs.Linear.{entry?}
@@ -15,15 +15,11 @@ returns c = rw (lt-leb _ _ (c .if1 .taken))
 
 returns-2 : tie.Need-returns-2
 unfolding entry? _and_
-returns-2 c = rw (le-leb _ _ (c .before .if1 .left), le-ltb _ _ (c .if2 .taken))
+returns-2 c = rw (le-leb _ _ (c .before .if1 .left), c .if2 .taken)
 
 returns-3 : tie.Need-returns-3
 unfolding entry? _and_
-returns-3 c = rw (le-leb _ _ (c .before .before .if1 .left), lt-ltb _ _ (c .before .if2 .left), c .if3 .taken)
-
-returns-4 : tie.Need-returns-4
-unfolding entry? _and_
-returns-4 c = rw (le-leb _ _ (c .before .before .if1 .left), lt-ltb _ _ (c .before .if2 .left), lt-ltb 0 (c .before .before .before .before .before .args .e .object .0) (omega (arith, c .if3 .left)))
+returns-3 c = rw (le-leb _ _ (c .before .if1 .left), lt-ltb 0 (c .before .before .before .before .args .e .object .0) (omega (arith, c .if2 .left)))
 
 pub entry-ok-spec : {M : Type 1} → statement M
-entry-ok-spec = tie.close (tie.spec cast-if1 returns returns-2 returns-3 returns-4)
+entry-ok-spec = tie.close (tie.spec cast-if1 returns returns-2 returns-3)

@@ -9,7 +9,7 @@ use Rattle.question.proofs.objects.kept_ok.Reads as reads
 use Rattle.question.proofs.objects.kept_ok.Lts as lts
 use Rattle.question.proofs.objects.kept_process.Reads as kept-process-reads
 use Rattle.question.proofs.objects.kept_threads_ok.Reads as kept-threads-ok-reads
-use Rattle.question.proofs.objects.slot_index.Reads as slot-index-reads
+use Rattle.tally.proofs.place.slot_index.Reads as slot-index-reads
 
 kept-threads-ok-requires : tie.Need-kept-threads-ok-requires
 kept-threads-ok-requires c κs = search needs

@@ -1,7 +1,6 @@
 use borrow.Author.Tests.{eq-eqb, ne-eqb, le-leb, lt-leb}
 use Rattle.laws.specs.Logic.{_and_, _or_}
 use Rattle.question.specs.LinearObjects.{keptThread?}
-use borrow.Author.Needs.{needs}
 use Rattle.question.proofs.objects.kept_thread.Statement.{statement}
 use Rattle.question.proofs.objects.kept_thread.Tie as tie
 

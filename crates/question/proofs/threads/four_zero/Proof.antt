@@ -1,6 +1,5 @@
-use borrow.Author.Tests.{lt-ltb, le-ltb, eq-eqb, ne-eqb, le-leb, lt-leb, not-true, not-false}
+use borrow.Author.Tests.{eq-eqb, ne-eqb}
 use Rattle.laws.specs.Logic.{_and_}
-use borrow.Author.Needs.{needs}
 use Rattle.question.proofs.threads.four_zero.Statement.{statement}
 use Rattle.question.proofs.threads.four_zero.Tie as tie
 use Rattle.question.proofs.threads.four_zero.Reads as reads

@@ -1,8 +1,7 @@
-use borrow.Author.Tests.{lt-ltb, le-ltb, eq-eqb, ne-eqb, le-leb, lt-leb, not-true, not-false}
+use borrow.Author.Tests.{lt-ltb}
 use native.Mathlib.Omega.{arith}
 use Rattle.laws.specs.Logic.{_and_}
 use Rattle.question.specs.Linear.{onePlace?}
-use borrow.Author.Needs.{needs}
 use Rattle.question.proofs.threads.one_place_ok.Statement.{statement}
 use Rattle.question.proofs.threads.one_place_ok.Tie as tie
 use Rattle.question.proofs.threads.one_place_ok.Reads as reads

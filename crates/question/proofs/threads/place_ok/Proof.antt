@@ -1,5 +1,4 @@
-use mathlib.Core.Path.{_≡_, refl, ap, sym, _∙_}
-use borrow.Author.Tests.{lt-ltb, le-ltb, eq-eqb, ne-eqb, le-leb, lt-leb, not-true, not-false}
+use borrow.Author.Tests.{lt-ltb, le-ltb}
 use Rattle.sound.specs.Threads.{place?}
 use borrow.Author.Needs.{needs}
 use Rattle.question.proofs.threads.place_ok.Statement.{statement}

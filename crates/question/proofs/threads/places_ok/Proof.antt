@@ -1,4 +1,4 @@
-use mathlib.Core.Path.{_≡_, ap, sym, _∙_}
+use mathlib.Core.Path.{ap, sym, _∙_}
 use Prim.Native.Nat.{ℕ}
 use Rattle.sound.specs.View.{ids}
 use Rattle.sound.specs.Threads.{places?}

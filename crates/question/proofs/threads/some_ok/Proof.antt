@@ -1,17 +1,15 @@
 -- The faults so far and the places not passed yet decide; a turn looks at one place.
-use mathlib.Core.Path.{_≡_, refl, ap, sym, _∙_}
-use mathlib.Core.Bool.{Bool, not}
+use mathlib.Core.Path.{_≡_, ap, sym, _∙_}
+use mathlib.Core.Bool.{Bool}
 use Prim.Native.Nat.{ℕ, _+_, _-_, _≤_, _<_}
 use native.Mathlib.Numerals.{unary-clauses}
 use native.Mathlib.Omega.{arith}
-use lib.Dec.{eqb, ltb}
+use lib.Dec.{eqb}
 use lib.ListN.{length, drop}
 use borrow.Author.Tests.{eq-eqb, ne-eqb}
 use Rattle.laws.specs.Logic.{_and_, and-no, and-yes}
-use Rattle.laws.specs.Count.{one?}
 use Rattle.sound.specs.View.{ids}
 use Rattle.sound.specs.Threads.{places?}
-use Rattle.question.specs.Linear.{onePlace?}
 use Rattle.question.proofs.Steps.{fault-turn, fault-small, places-step, places-end}
 use borrow.Author.Needs.{needs}
 use Rattle.question.proofs.threads.some_ok.Statement.{statement}

@@ -1,6 +1,6 @@
-use mathlib.Core.Path.{_≡_, refl, ap, sym, _∙_}
-use borrow.Author.Tests.{lt-ltb, le-ltb, eq-eqb, ne-eqb, le-leb, lt-leb, not-true, not-false}
-use Rattle.laws.specs.Logic.{_and_, and-no, and-yes}
+use mathlib.Core.Path.{ap, sym, _∙_}
+use borrow.Author.Tests.{le-leb, lt-leb, not-true, not-false}
+use Rattle.laws.specs.Logic.{and-no, and-yes}
 use Rattle.sound.specs.Threads.{thread?}
 use Rattle.question.specs.Linear.{runs?}
 use Rattle.question.proofs.Steps.{runs-is}
@@ -9,7 +9,7 @@ use Rattle.question.proofs.threads.thread_ok.Statement.{statement}
 use Rattle.question.proofs.threads.thread_ok.Tie as tie
 use Rattle.question.proofs.threads.thread_ok.Reads as reads
 use Rattle.question.proofs.threads.thread_ok.Lts as lts
-use Rattle.question.proofs.threads.is_current.Reads as is-current-reads
+use Rattle.sound.proofs.is_current.Reads as is-current-reads
 use Rattle.question.proofs.threads.only_ok.Reads as only-ok-reads
 use Rattle.question.proofs.threads.places_ok.Reads as places-ok-reads
 use Rattle.question.proofs.threads.run_ok.Reads as run-ok-reads

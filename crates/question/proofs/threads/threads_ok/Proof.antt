@@ -1,6 +1,6 @@
-use mathlib.Core.Path.{_≡_, refl, ap, sym, _∙_}
-use borrow.Author.Tests.{lt-ltb, le-ltb, eq-eqb, ne-eqb, le-leb, lt-leb, not-true, not-false}
-use Rattle.laws.specs.Logic.{_and_, and-no, and-yes}
+use mathlib.Core.Path.{sym, _∙_}
+use borrow.Author.Tests.{le-leb, lt-leb, not-true, not-false}
+use Rattle.laws.specs.Logic.{and-no, and-yes}
 use Rattle.sound.specs.Threads.{threads?}
 use Rattle.question.specs.Linear.{places32?}
 use borrow.Author.Needs.{needs}

@@ -1,9 +1,8 @@
 use mathlib.Core.Path.{_≡_, refl, sym, _∙_}
-use Prim.Native.Nat.{_+_, _-_, _≤_, _<_}
-use native.Mathlib.Omega.{arith}
+use Prim.Native.Nat.{_-_, _≤_}
 use lib.Dec.{leb}
-use lib.ListN.{length, getD}
-use borrow.Author.Tests.{lt-ltb, le-ltb, eq-eqb, ne-eqb, le-leb, lt-leb, not-true, not-false}
+use lib.ListN.{getD}
+use borrow.Author.Tests.{le-leb, lt-leb}
 use Rattle.laws.specs.Logic.{and-no, and-yes}
 use Rattle.laws.specs.Numbers.{allBelow, allTo-step, allTo-end}
 use Rattle.question.specs.Linear.{once32?}

@@ -1,6 +1,5 @@
-use mathlib.Core.Path.{_≡_, refl, ap, sym, _∙_}
-use borrow.Author.Tests.{lt-ltb, le-ltb, eq-eqb, ne-eqb, le-leb, lt-leb, not-true, not-false}
-use Rattle.laws.specs.Logic.{_and_, and-end}
+use mathlib.Core.Path.{sym, _∙_}
+use Rattle.laws.specs.Logic.{and-end}
 use Rattle.sound.specs.Tls.{below?}
 use borrow.Author.Needs.{needs}
 use Rattle.question.proofs.tls.slot_below.Statement.{statement}

@@ -1,10 +1,9 @@
 use Rattle.codec.proofs.Fit.{length-decAll}
 use Rattle.block.specs.Thread.{decThread}
 use Rattle.block.specs.Tables.{threadsIn}
-use mathlib.Core.Path.{_≡_, refl, ap, sym, _∙_}
-use borrow.Author.Tests.{lt-ltb, le-ltb, eq-eqb, ne-eqb, le-leb, lt-leb, not-true, not-false}
-use lib.ListN.{replicate}
-use Rattle.laws.specs.Logic.{_and_, and-no, and-yes}
+use mathlib.Core.Path.{ap, sym, _∙_}
+use borrow.Author.Tests.{le-leb, lt-leb, not-true, not-false}
+use Rattle.laws.specs.Logic.{and-no, and-yes}
 use Rattle.sound.specs.Tls.{tls?}
 use Rattle.question.specs.Linear.{once32?}
 use Rattle.question.specs.SameTls.{once-is}

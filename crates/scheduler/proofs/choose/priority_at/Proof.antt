@@ -1,4 +1,3 @@
-use mathlib.Core.Path.{_≡_, refl, ap, sym, _∙_}
 use Rattle.pick.proofs.Steps.{far}
 use native.Mathlib.Omega.{arith}
 use borrow.Author.Needs.{needs}

@@ -1,4 +1,3 @@
-use mathlib.Core.Path.{_≡_, refl, ap, sym, _∙_}
 use borrow.Author.Needs.{needs}
 use Rattle.scheduler.proofs.run.begun.Statement.{statement}
 use Rattle.scheduler.proofs.run.begun.Tie as tie

@@ -1,4 +1,4 @@
-use mathlib.Core.Path.{_≡_, refl, ap, sym, _∙_}
+use mathlib.Core.Path.{sym, _∙_}
 use borrow.Author.Needs.{needs}
 use Rattle.scheduler.proofs.run.leaves.Statement.{statement}
 use Rattle.scheduler.proofs.run.leaves.Tie as tie

@@ -1,8 +1,6 @@
-use mathlib.Core.Path.{_≡_, refl, ap, sym, _∙_}
-use Prim.Native.Nat.{_+_, _-_, _≤_, _<_}
+use Prim.Native.Nat.{_-_}
 use native.Mathlib.Omega.{arith}
-use Rattle.laws.specs.Logic.{pick, _and_, _or_, and-no, and-yes}
-use borrow.Author.Tests.{lt-ltb, le-ltb, lt-leb, le-leb, eq-eqb, ne-eqb, not-true, not-false}
+use borrow.Author.Tests.{lt-ltb, le-ltb}
 use Rattle.scheduler.proofs.run.place.Statement.{statement}
 use Rattle.scheduler.proofs.run.place.Tie as tie
 use Rattle.scheduler.proofs.run.place.Reads as reads

@@ -1,6 +1,5 @@
 use borrow.Author.Tests.{eq-eqb, ne-eqb, lt-leb, le-leb}
 use Rattle.laws.specs.Logic.{_and_}
-use native.Mathlib.Omega.{arith}
 use Prim.Native.Nat.{_+_, _*_}
 use borrow.Author.Needs.{needs}
 use Rattle.table.proofs.questions.in_window.Statement.{statement}

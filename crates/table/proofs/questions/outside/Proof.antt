@@ -1,5 +1,4 @@
 use borrow.Author.Tests.{eq-eqb, ne-eqb}
-use mathlib.Core.Path.{_≡_, sym, ap, _∙_}
 use Rattle.svc.specs.Dispatch as def
 use borrow.Author.Needs.{needs}
 use Rattle.table.proofs.questions.outside.Statement.{statement}

@@ -1,5 +1,5 @@
 use borrow.Author.Tests.{not-true, not-false}
-use mathlib.Core.Path.{_≡_, sym, ap, _∙_}
+use mathlib.Core.Path.{sym, _∙_}
 use Rattle.svc.specs.Dispatch as def
 use borrow.Author.Needs.{needs}
 use Rattle.table.proofs.questions.refusal.Statement.{statement}

@@ -1,7 +1,6 @@
 use borrow.Author.Tests.{eq-eqb, ne-eqb}
 use Rattle.svc.specs.Dispatch as def
 use Rattle.laws.specs.Logic.{_and_}
-use borrow.Author.Needs.{needs}
 use Rattle.table.proofs.questions.too_many.Statement.{statement}
 use Rattle.table.proofs.questions.too_many.Tie as tie
 

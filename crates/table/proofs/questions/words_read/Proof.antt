@@ -1,6 +1,5 @@
 use borrow.Author.Tests.{eq-eqb, ne-eqb, lt-leb, le-leb}
 use Rattle.laws.specs.Logic.{_and_}
-use borrow.Author.Needs.{needs}
 use Rattle.table.proofs.questions.words_read.Statement.{statement}
 use Rattle.table.proofs.questions.words_read.Tie as tie
 

@@ -1,7 +1,5 @@
-use Prim.Native.Nat.{_≤_}
 use Rattle.thread.specs.Threads.{createThread}
 use Rattle.thread.proofs.Steps.{tls-le}
-use borrow.Author.Needs.{needs}
 use Rattle.thread.proofs.create.create_thread.Statement.{statement}
 use Rattle.thread.proofs.create.create_thread.Tie as tie
 use Rattle.thread.proofs.create.create_thread.Reads as reads

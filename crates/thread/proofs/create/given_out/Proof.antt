@@ -1,4 +1,4 @@
-use borrow.Author.Tests.{lt-ltb, le-ltb, eq-eqb, ne-eqb}
+use borrow.Author.Tests.{lt-ltb, le-ltb}
 use borrow.Author.Needs.{needs}
 use Rattle.thread.proofs.create.given_out.Statement.{statement}
 use Rattle.thread.proofs.create.given_out.Tie as tie

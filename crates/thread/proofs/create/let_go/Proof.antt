@@ -1,4 +1,4 @@
-use borrow.Author.Tests.{lt-ltb, le-ltb, eq-eqb, ne-eqb}
+use borrow.Author.Tests.{eq-eqb, ne-eqb}
 use borrow.Author.Needs.{needs}
 use Rattle.thread.proofs.create.let_go.Statement.{statement}
 use Rattle.thread.proofs.create.let_go.Tie as tie

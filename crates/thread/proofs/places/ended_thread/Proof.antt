@@ -1,5 +1,4 @@
-use mathlib.Core.Path.{_≡_, refl, ap, sym, _∙_}
-use native.Mathlib.Omega.{arith}
+use mathlib.Core.Path.{_∙_}
 use Rattle.thread.specs.Threads.{least, endedThread}
 use Rattle.thread.specs.Marks.{least-le, ended-is}
 use borrow.Author.Needs.{needs}

@@ -1,9 +1,8 @@
-use mathlib.Core.Path.{_≡_, refl, ap, sym, _∙_}
-use Prim.Native.Nat.{_+_, _-_, _≤_, _<_}
+use mathlib.Core.Path.{_≡_, sym, _∙_}
+use Prim.Native.Nat.{_-_, _≤_}
 use native.Mathlib.Numerals.{unary-clauses}
 use native.Mathlib.Omega.{arith}
 use Rattle.laws.specs.Logic.{pick-yes, pick-no}
-use borrow.Author.Tests.{lt-ltb, le-ltb, eq-eqb, ne-eqb, not-true, not-false}
 use lib.ListN.{length}
 use Rattle.thread.specs.Marks.{endedIn}
 use Rattle.thread.proofs.Steps.{ended-step, ended-end}
@@ -13,7 +12,7 @@ use Rattle.thread.proofs.places.first_ended.Tie as tie
 use Rattle.thread.proofs.places.first_ended.Reads as reads
 use Rattle.thread.proofs.places.first_ended.Lts as lts
 use Rattle.thread.proofs.places.is_ended.Reads as is-ended-reads
-use Rattle.thread.proofs.places.slot_index.Reads as slot-index-reads
+use Rattle.tally.proofs.place.slot_index.Reads as slot-index-reads
 
 abbrev Inv-loop : tie.InvT-loop
 Inv-loop n ts kept slots i₀ i = (i ≤ n) × (endedIn ts kept slots (n - i) i ≡ endedIn ts kept slots n 0)

@@ -1,9 +1,8 @@
-use mathlib.Core.Path.{_≡_, refl, ap, sym, _∙_}
-use Prim.Native.Nat.{_+_, _-_, _≤_, _<_}
+use mathlib.Core.Path.{_≡_, sym, _∙_}
+use Prim.Native.Nat.{_-_, _≤_}
 use native.Mathlib.Numerals.{unary-clauses}
-use native.Mathlib.Omega.{arith}
 use Rattle.laws.specs.Logic.{pick-yes, pick-no}
-use borrow.Author.Tests.{lt-ltb, le-ltb, eq-eqb, ne-eqb, not-true, not-false}
+use borrow.Author.Tests.{eq-eqb, ne-eqb}
 use Rattle.thread.specs.Marks.{freeMarked}
 use Rattle.thread.proofs.Steps.{free-step, free-end}
 use borrow.Author.Needs.{needs}

@@ -1,6 +1,6 @@
-use mathlib.Core.Path.{_≡_, refl, ap, sym, _∙_}
-use borrow.Author.Tests.{lt-ltb, le-ltb, eq-eqb, ne-eqb, not-true, not-false}
-use Rattle.laws.specs.Logic.{_and_, and-no, and-yes}
+use mathlib.Core.Path.{sym, _∙_}
+use borrow.Author.Tests.{not-true, not-false}
+use Rattle.laws.specs.Logic.{and-no, and-yes}
 use Rattle.thread.specs.Marks.{ended?}
 use borrow.Author.Needs.{needs}
 use Rattle.thread.proofs.places.is_ended.Statement.{statement}

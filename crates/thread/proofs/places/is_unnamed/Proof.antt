@@ -1,7 +1,6 @@
-use borrow.Author.Tests.{lt-ltb, le-ltb, eq-eqb, ne-eqb, not-true, not-false}
+use borrow.Author.Tests.{lt-ltb, le-ltb, eq-eqb, ne-eqb}
 use Rattle.laws.specs.Logic.{_or_}
 use Rattle.thread.specs.Marks.{unnamed?}
-use borrow.Author.Needs.{needs}
 use Rattle.thread.proofs.places.is_unnamed.Statement.{statement}
 use Rattle.thread.proofs.places.is_unnamed.Tie as tie
 use Rattle.thread.proofs.places.is_unnamed.Reads as reads

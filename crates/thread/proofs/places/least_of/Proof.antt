@@ -1,5 +1,4 @@
-use borrow.Author.Tests.{lt-ltb, le-ltb, eq-eqb, ne-eqb, not-true, not-false}
-use borrow.Author.Needs.{needs}
+use borrow.Author.Tests.{lt-ltb, le-ltb}
 use Rattle.thread.proofs.places.least_of.Statement.{statement}
 use Rattle.thread.proofs.places.least_of.Tie as tie
 use Rattle.thread.proofs.places.least_of.Reads as reads

@@ -1,11 +1,7 @@
-use mathlib.Core.Path.{_≡_, refl, ap, sym, _∙_}
-use Prim.Native.Nat.{_+_, _≤_}
+use mathlib.Core.Path.{_∙_}
 use native.Mathlib.Omega.{arith}
-use lib.ListN.{replicate}
-use Rattle.sound.specs.Tls.{held}
-use Rattle.laws.specs.Tally.{tally}
-use Rattle.thread.specs.Threads.{least, freeFrom, tlsSlot}
-use Rattle.thread.specs.Marks.{least-le, freeMarked, free-is}
+use Rattle.thread.specs.Threads.{least, tlsSlot}
+use Rattle.thread.specs.Marks.{least-le, free-is}
 use borrow.Author.Needs.{needs}
 use Rattle.thread.proofs.places.tls_slot.Statement.{statement}
 use Rattle.thread.proofs.places.tls_slot.Tie as tie

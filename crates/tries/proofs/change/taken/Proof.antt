@@ -1,15 +1,12 @@
-use mathlib.Core.Path.{_≡_, refl, ap, sym, _∙_}
-use Prim.Native.Nat.{_+_, _-_, _≤_, _<_}
-use native.Mathlib.Omega.{arith}
-use Rattle.laws.specs.Logic.{pick, _and_, _or_, and-no, and-yes}
-use borrow.Author.Tests.{lt-ltb, le-ltb, lt-leb, le-leb, eq-eqb, ne-eqb, not-true, not-false}
+use mathlib.Core.Path.{sym, _∙_}
+use Prim.Native.Nat.{_-_}
 use borrow.Author.Needs.{needs}
 use Rattle.tries.proofs.change.taken.Statement.{statement}
 use Rattle.tries.proofs.change.taken.Tie as tie
 use Rattle.tries.proofs.change.taken.Reads as reads
 use Rattle.tries.proofs.change.taken.Lts as lts
 use Rattle.acquire.proofs.acquired_slot.Reads as acquired-slot-reads
-use Rattle.tries.proofs.change.is_slot.Reads as is-slot-reads
+use Rattle.tally.proofs.place.is_slot.Reads as is-slot-reads
 
 is-slot-requires : tie.Need-is-slot-requires
 is-slot-requires c κs = search needs

@@ -1,9 +1,9 @@
 use Rattle.wait.proofs.Steps.{noId}
 use borrow.Author.Needs.{needs}
 use mathlib.Core.Path.{_≡_, refl, ap, sym, _∙_}
-use Prim.Native.Nat.{_+_, _-_, _≤_, _<_}
+use Prim.Native.Nat.{_-_, _≤_}
 use native.Mathlib.Omega.{arith}
-use Rattle.laws.specs.Logic.{pick, pick-yes, pick-no}
+use Rattle.laws.specs.Logic.{pick-yes, pick-no}
 use lib.ListN.{length, take, drop, getD}
 use Rattle.sound.specs.View.{ids, slotAt}
 use Rattle.object.proofs.Laws.{list-at, list-end, list-over}
@@ -13,7 +13,7 @@ use Rattle.wait.proofs.satisfy.first_in.Statement.{statement}
 use Rattle.wait.proofs.satisfy.first_in.Tie as tie
 use Rattle.wait.proofs.satisfy.first_in.Reads as reads
 use Rattle.wait.proofs.satisfy.first_in.Lts as lts
-use Rattle.thread.proofs.places.slot_index.Reads as slot-index-reads
+use Rattle.tally.proofs.place.slot_index.Reads as slot-index-reads
 use Rattle.wait.proofs.satisfy.look.Reads as look-reads
 use Rattle.wait.proofs.satisfy.named_index.Reads as named-index-reads
 

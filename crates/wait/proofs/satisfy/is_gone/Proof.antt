@@ -1,8 +1,5 @@
-use mathlib.Core.Path.{_≡_, refl, ap, sym, _∙_}
-use Prim.Native.Nat.{_+_, _-_, _≤_, _<_}
-use native.Mathlib.Omega.{arith}
-use Rattle.laws.specs.Logic.{pick, _or_, pick-yes, pick-no, or-yes, or-no}
-use borrow.Author.Tests.{lt-ltb, le-ltb, lt-leb, le-leb, eq-eqb, ne-eqb, not-true, not-false}
+use Prim.Native.Nat.{_-_}
+use borrow.Author.Tests.{lt-ltb, le-ltb}
 use borrow.Author.Needs.{needs}
 use Rattle.wait.proofs.satisfy.is_gone.Statement.{statement}
 use Rattle.wait.proofs.satisfy.is_gone.Tie as tie

@@ -1,9 +1,6 @@
-use borrow.Author.Needs.{needs}
-use mathlib.Core.Path.{_≡_, refl, ap, sym, _∙_}
-use Prim.Native.Nat.{_+_, _-_, _≤_, _<_}
-use native.Mathlib.Omega.{arith}
-use Rattle.laws.specs.Logic.{pick, _or_, pick-yes, pick-no, or-yes, or-no}
-use borrow.Author.Tests.{lt-ltb, le-ltb, lt-leb, le-leb, eq-eqb, ne-eqb, not-true, not-false}
+use Prim.Native.Nat.{_-_}
+use Rattle.laws.specs.Logic.{_or_}
+use borrow.Author.Tests.{lt-ltb, le-ltb, eq-eqb, ne-eqb}
 use Rattle.wait.proofs.satisfy.object_in.Statement.{statement}
 use Rattle.wait.proofs.satisfy.object_in.Tie as tie
 use Rattle.wait.proofs.satisfy.object_in.Reads as reads

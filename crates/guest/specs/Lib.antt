@@ -1,0 +1,2 @@
+-- Which calls write a word.
+pub mod Word

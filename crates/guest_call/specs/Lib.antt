@@ -1,0 +1,2 @@
+-- The place of a thread that a call makes.
+pub mod Made

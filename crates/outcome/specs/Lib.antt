@@ -1,0 +1,2 @@
+-- What a call leaves beside the state, and in the block.
+pub mod Outcome

@@ -1,2 +1,0 @@
--- The laws that the proofs of `running` cite.
-pub mod Passes

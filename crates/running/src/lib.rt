@@ -1,2 +1,0 @@
-// The pass, over what is lent.
-pub mod schedule;

@@ -1,0 +1,2 @@
+-- The laws that the proofs of `schedule` cite.
+pub mod Passes

@@ -1,2 +1,0 @@
-// The operation of a guest call, over what is lent.
-pub mod guest_call;

@@ -1,0 +1,20 @@
+use borrow.Author.Needs.{needs}
+use Rattle.sound.proofs.is_current.Statement.{statement}
+use Rattle.sound.proofs.is_current.Tie as tie
+use Rattle.sound.proofs.is_current.Reads as reads
+use Rattle.sound.proofs.is_current.Lts as lts
+
+enum-told : tie.Need-enum-told
+enum-told c = search needs
+
+enum-known-c : tie.Need-enum-known-c
+enum-known-c c = search needs
+
+returns : tie.Need-returns
+returns c = search needs
+
+returns-2 : tie.Need-returns-2
+returns-2 c = rw (c .before .c .given .1)
+
+pub is-current-spec : {M : Type 1} → statement M
+is-current-spec = tie.close (tie.spec enum-told enum-known-c returns returns-2)
