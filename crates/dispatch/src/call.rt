@@ -17,16 +17,16 @@ fn thread_part(block: &mut [u8], number: u32, k: Kernel, r: Registers, tick: u64
     ensures { λ _. ⌜ now (block .exit) ≡ left (threadPart number k r tick) (now (block .entry)) ⌝ }
 {
     if number == 0x08 {
-        return finish(block, calls::threads::create_thread(k, r));
+        return finish(block, thread_calls::create_thread(k, r));
     }
     if number == 0x09 {
-        return finish(block, calls::threads::exit_thread(k, r));
+        return finish(block, thread_calls::exit_thread(k, r));
     }
     if number == 0x0A {
-        return finish(block, calls::threads::sleep_thread(k, r, tick));
+        return finish(block, thread_calls::sleep_thread(k, r, tick));
     }
     if number == 0x0C {
-        return finish(block, calls::threads::set_thread_priority(k, r));
+        return finish(block, thread_calls::set_thread_priority(k, r));
     }
     finish(block, answering::silent(k))
 }
