@@ -1,23 +1,18 @@
 -- An object that is acquired, by the code's cases. Assumes nothing.
-use mathlib.Core.Path.{_≡_, ap, sym, _∙_}
-use mathlib.Core.Bool.{true, false}
+use mathlib.Core.Path.{_≡_, ap, _∙_}
+use mathlib.Core.Bool.{false}
 use mathlib.Core.Logic.{_≢_, inl, inr}
 use Prim.Native.Nat.{ℕ, _-_, _<_}
 use native.Mathlib.Omega.{arith}
-use lib.Dec.{ltb}
 use lib.ListN.{length, getD, set}
-use borrow.Author.Tests.{ltb-true, lt-ltb}
-use Rattle.laws.specs.Logic.{_and_, _or_, and-true, true-and, false-true, lt-cases}
+use Rattle.laws.specs.Logic.{_or_, lt-cases}
+use Rattle.tally.specs.Place.{isSlot, slot-past}
 use Rattle.types.specs.declared.object.Slot.{Slot}
 use Rattle.types.specs.declared.object.ObjectStore.{ObjectStore}
 use Rattle.sound.specs.View.{noSlot, slotAt, slotAt-pos, slotAt-out}
 use Rattle.object.specs.Slots.{withSlots, withObject, slotPut, content}
 use Rattle.object.proofs.Laws.{slotAt-none, slotPut-none, slotPut-pos, slotPut-far, or-end}
 use Rattle.pass.specs.Signal.{acquired, acquireOver, withOverflow, acquire}
-
--- a number that a slot has
-pub slot-in : (k : ℕ) → ltb 0 k and ltb k 129 ≡ true → (0 < k) × (k < 129)
-slot-in k e = let p = and-true (ltb 0 k) (ltb k 129) e in (ltb-true 0 k (p .0), ltb-true k 129 (p .1))
 
 module _ (s : ObjectStore) (k w : ℕ) where
   acquire-as : (v : Slot) → slotAt (s .slots) k ≡ v
@@ -37,13 +32,10 @@ module _ (s : ObjectStore) (k w : ℕ) where
       ∙ ap (λ z. withOverflow (withSlots s z) (s .overflow or false)) (slotPut-far (s .slots) k noSlot h)
       ∙ ap (λ b. withOverflow s b) (or-end (s .overflow))
 
-  pub acquire-out : length (s .slots) ≡ 128 → ltb 0 k and ltb k 129 ≡ false → acquire s k w ≡ s
+  pub acquire-out : length (s .slots) ≡ 128 → isSlot k ≡ false → acquire s k w ≡ s
   acquire-out n e =
       elim (lt-cases 0 k) [
-        | inl h ↦ elim (lt-cases k 129) [
-          | inl g ↦ false-true (sym e ∙ true-and (ltb 0 k) (ltb k 129) (lt-ltb 0 k h) (lt-ltb k 129 g))
-          | inr g ↦ acquire-far (omega arith)
-        ]
+        | inl h ↦ acquire-far (omega (arith, n, slot-past k e h))
         | inr h ↦ acquire-none (omega arith)
       ]
 

@@ -6,10 +6,10 @@ use mathlib.Core.List.{List, [], _∷_, _++_, map}
 use Prim.Native.Nat.{ℕ, zero, suc, _+_, _-_, _≤_, _<_}
 use native.Mathlib.Numerals.{add-one}
 use native.Mathlib.Omega.{arith}
-use lib.Dec.{eqb, leb}
+use lib.Dec.{eqb}
 use lib.ListN.{length, getD, set, take, drop, length-map, length-take, List·getD-map, List·getD-eq-default, drop-of-length-le}
 use lib.Seq.{drop-cons, set-out, set-getD, getD-take}
-use borrow.Author.Tests.{eq-eqb, ne-eqb, leb-false}
+use borrow.Author.Tests.{eq-eqb, ne-eqb}
 use Rattle.laws.specs.Logic.{pick, pick-yes, pick-no, _and_, _or_, and-false}
 use Rattle.laws.specs.Count.{at}
 use Rattle.laws.specs.Walk.{walk, walk-nil, walk-go}
@@ -22,14 +22,15 @@ use Rattle.types.specs.declared.object.HandleEntry.{HandleEntry}
 use Rattle.types.specs.declared.object.HandleTable.{HandleTable}
 use Rattle.types.specs.declared.object.ObjectStore.{ObjectStore}
 use Rattle.types.specs.Object.{headOf}
-use Rattle.sound.specs.View.{ids, noSlot, slotAt, objectAt, waiterNexts, waiterThreads, waiterAddresses}
+use Rattle.sound.specs.View.{ids, noSlot, slotAt, slotAt-pos, slotAt-out, objectAt, waiterNexts, waiterThreads, waiterAddresses}
 use Rattle.sound.specs.Records.{chainOf, has?}
+use Rattle.tally.specs.Place.{isSlot, slot-some, slot-past, slotIndex, index-slot}
 use Rattle.object.specs.declared.waiters.Links.{Links}
 use Rattle.object.specs.Slots.{slotPut, withSlots, withObject}
 use Rattle.object.specs.Waiters.{noWaiter, waiterAt, waiterPut, link, unlink, withHead, retain, ofOthers, dropThread, lastOf, firstOf, isArbiter, pushed, push}
 use Rattle.object.specs.declared.handles.Both.{Both}
 use Rattle.object.specs.Store.{isFree, addRef, release}
-use Rattle.object.specs.Held.{hasSlot, held}
+use Rattle.object.specs.Held.{held}
 use Rattle.object.specs.Handles.{noEntry, placeOf, objectOf, without, takenOut, close}
 
 -- ---- slots
@@ -66,29 +67,25 @@ add-ref-held s o = go (isFree (objectAt s o)) _
     go false v = refl
 
 -- a slot by the index where it is looked for
-pub slot-in : (l : List Slot) (o : ℕ) → length l ≡ 128 → pick (hasSlot o) (getD l (pick (hasSlot o) (o - 1) 0) noSlot) noSlot ≡ slotAt l o
-unfolding slotAt
-slot-in l zero n = refl
-slot-in l (suc i) n = rw (ne-eqb (suc i) 0 (λ e. omega (arith, e))) (go (leb (suc i) 128) refl)
+pub slot-in : (l : List Slot) (o : ℕ) → length l ≡ 128 → pick (isSlot o) (getD l (slotIndex o) noSlot) noSlot ≡ slotAt l o
+slot-in l o n = go (isSlot o) refl
   where
-    down : suc i - 1 ≡ i
-    down = omega arith
+    go : (b : Bool) → isSlot o ≡ b → pick b (getD l (slotIndex o) noSlot) noSlot ≡ slotAt l o
+    go true e = rw (index-slot o e) (sym (slotAt-pos l o (λ z. omega (arith, slot-some o e))))
+    go false e = sym (slotAt-out l o (λ h. omega (arith, n, slot-past o e h)))
 
-    go : (b : Bool) → leb (suc i) 128 ≡ b → pick b (getD l (pick b (suc i - 1) 0) noSlot) noSlot ≡ getD l i noSlot
-    go true e = rw down
-    go false e = sym (List·getD-eq-default l noSlot (omega (arith, leb-false (suc i) 128 e, n)))
-
-pub put-in : (f : Slot → Slot) (l : List Slot) (o : ℕ) → length l ≡ 128 → set l (pick (hasSlot o) (o - 1) 0) (pick (hasSlot o) (f (getD l (pick (hasSlot o) (o - 1) 0) noSlot)) (getD l (pick (hasSlot o) (o - 1) 0) noSlot)) ≡ slotPut l o (f (slotAt l o))
-unfolding slotAt slotPut
-put-in f l zero n = set-getD l 0 noSlot
-put-in f l (suc i) n = rw (ne-eqb (suc i) 0 (λ e. omega (arith, e))) (go (leb (suc i) 128) refl)
+pub put-in : (f : Slot → Slot) (l : List Slot) (o : ℕ) → length l ≡ 128 → set l (slotIndex o) (pick (isSlot o) (f (getD l (slotIndex o) noSlot)) (getD l (slotIndex o) noSlot)) ≡ slotPut l o (f (slotAt l o))
+put-in f l o n = go (isSlot o) refl
   where
-    down : suc i - 1 ≡ i
-    down = omega arith
-
-    go : (b : Bool) → leb (suc i) 128 ≡ b → set l (pick b (suc i - 1) 0) (pick b (f (getD l (pick b (suc i - 1) 0) noSlot)) (getD l (pick b (suc i - 1) 0) noSlot)) ≡ set l i (f (getD l i noSlot))
-    go true e = rw down
-    go false e = set-getD l 0 noSlot ∙ sym (set-out l i _ (omega (arith, leb-false (suc i) 128 e, n)))
+    go : (b : Bool) → isSlot o ≡ b → set l (slotIndex o) (pick b (f (getD l (slotIndex o) noSlot)) (getD l (slotIndex o) noSlot)) ≡ slotPut l o (f (slotAt l o))
+    go true e =
+        let z : o ≢ 0 = λ w. omega (arith, w, slot-some o e) in
+        rw (index-slot o e) (sym (slotPut-pos l o (f (slotAt l o)) z ∙ ap (λ (x : Slot). set l (o - 1) (f x)) (slotAt-pos l o z)))
+    go false e = set-getD l (slotIndex o) noSlot ∙ sym (none o e)
+      where
+        none : (k : ℕ) → isSlot k ≡ false → slotPut l k (f (slotAt l k)) ≡ l
+        none zero h = slotPut-none l 0 _ refl
+        none (suc i) h = slotPut-far l (suc i) _ (omega (arith, n, slot-past (suc i) h (omega arith)))
 
 -- ---- tests
 pub or-true : (a : Bool) → a or true ≡ true

@@ -8,7 +8,7 @@ ghost use Prim.Native.Nat.{_-_, _<_};
 ghost use Rattle.sound.specs.View.{slotAt, noSlot};
 ghost use Rattle.laws.specs.Logic.{pick};
 ghost use Rattle.object.specs.Slots as def;
-ghost use Rattle.object.specs.Held.{hasSlot};
+ghost use Rattle.tally.specs.Place.{isSlot};
 
 fn no_slot() -> Slot
     ensures { λ r. ⌜ r ≡ noSlot ⌝ }
@@ -50,34 +50,11 @@ pub fn put_slot(s: ObjectStore, o: ObjectId, v: Slot) -> ObjectStore
     q
 }
 
-pub fn has_slot(o: ObjectId) -> bool
-    ensures { λ r. ⌜ r ≡ hasSlot (o .0) ⌝ }
-{
-    if o.0 == 0 {
-        return false;
-    }
-    o.0 <= 128
-}
-
-// Where to look for the object: its slot, or the first one if it has none.
-pub fn index_of(o: ObjectId) -> usize
-    ensures { λ r. ⌜ r ≡ pick (hasSlot (o .0)) (o .0 - 1) 0 ⌝ }
-    ensures { λ r. ⌜ r < 128 ⌝ }
-{
-    if o.0 == 0 {
-        return 0;
-    }
-    if 128 < o.0 {
-        return 0;
-    }
-    (o.0 - 1) as usize
-}
-
 // What the object's slot has; x is what stands where the object is looked for.
 pub fn slot_in(o: ObjectId, x: Slot) -> Slot
-    ensures { λ r. ⌜ r ≡ pick (hasSlot (o .0)) x noSlot ⌝ }
+    ensures { λ r. ⌜ r ≡ pick (isSlot (o .0)) x noSlot ⌝ }
 {
-    if has_slot(o) {
+    if tally::place::is_slot(o.0) {
         return x;
     }
     no_slot()
@@ -85,9 +62,9 @@ pub fn slot_in(o: ObjectId, x: Slot) -> Slot
 
 // What stands there once v is put into the object's slot.
 pub fn put_in(o: ObjectId, x: Slot, v: Slot) -> Slot
-    ensures { λ r. ⌜ r ≡ pick (hasSlot (o .0)) v x ⌝ }
+    ensures { λ r. ⌜ r ≡ pick (isSlot (o .0)) v x ⌝ }
 {
-    if has_slot(o) {
+    if tally::place::is_slot(o.0) {
         return v;
     }
     x

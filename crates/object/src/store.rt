@@ -21,7 +21,7 @@ pub fn content(s: ObjectStore, o: ObjectId, v: KObject) -> ObjectStore
     ensures { λ r. ⌜ r ≡ parts.content s (o .0) v ⌝ }
 {
     let mut q = s;
-    let i = slots::index_of(o);
+    let i = tally::place::slot_index(o.0);
     let old = q.slots[i];
     let changed = Slot {
         object: v,
@@ -38,7 +38,7 @@ pub fn insert(s: ObjectStore, v: KObject) -> ObjectStore
 {
     let mut q = s;
     let o = ObjectId(q.free);
-    let i = slots::index_of(o);
+    let i = tally::place::slot_index(o.0);
     let old = slots::slot_in(o, q.slots[i]);
     let object = old.object;
     let made = Slot {
@@ -81,7 +81,7 @@ pub fn add_ref(s: ObjectStore, o: ObjectId) -> ObjectStore
     ensures { λ r. ⌜ r ≡ def.addRef s (o .0) ⌝ }
 {
     let mut q = s;
-    let i = slots::index_of(o);
+    let i = tally::place::slot_index(o.0);
     q.slots[i] = slots::put_in(o, q.slots[i], held(q.slots[i]));
     q
 }
@@ -97,7 +97,7 @@ pub fn add_ref_list(s: ObjectStore, l: [ObjectId; 8], n: u32) -> ObjectStore
             return q;
         }
         let o = l[i];
-        let j = slots::index_of(o);
+        let j = tally::place::slot_index(o.0);
         q.slots[j] = slots::put_in(o, q.slots[j], held(q.slots[j]));
         i += 1;
     }

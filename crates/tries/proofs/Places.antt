@@ -1,7 +1,7 @@
 -- An object that is acquired or released is one slot changed. Assumes nothing.
 use mathlib.Core.Path.{_≡_, refl, ap, sym, _∙_}
 use mathlib.Core.Bool.{Bool, true, false}
-use mathlib.Core.Logic.{_≢_, inl, inr}
+use mathlib.Core.Logic.{_≢_}
 use mathlib.Core.List.{List}
 use Prim.Native.Nat.{ℕ, zero, suc, _-_, _<_}
 use native.Mathlib.Omega.{arith}
@@ -9,7 +9,7 @@ use lib.Dec.{leb, ltb}
 use lib.ListN.{length, getD, set, length-set}
 use lib.Seq.{set-getD}
 use borrow.Author.Tests.{eq-eqb, ne-eqb, le-ltb, lt-ltb, ltb-true, ltb-false, leb-true, leb-false}
-use Rattle.laws.specs.Logic.{pick, pick-yes, pick-no, _and_, true-and, false-true, lt-cases}
+use Rattle.laws.specs.Logic.{pick, pick-yes, pick-no, _and_}
 use Rattle.laws.specs.Walk.{walk, walk-nil}
 use Rattle.types.specs.declared.object.KObject.the-variants.{Free}
 use Rattle.types.specs.declared.object.Slot.{Slot}
@@ -20,17 +20,10 @@ use Rattle.object.specs.Slots.{slotPut, withSlots, withRefcount}
 use Rattle.object.specs.Store.{isFree, release, release-if}
 use Rattle.object.specs.Waiters.{unlink}
 use Rattle.object.proofs.Laws.{slotPut-pos}
-use Rattle.tally.specs.Place.{isSlot, slotIndex}
+use Rattle.tally.specs.Place.{isSlot, slot-some, slot-past, slotIndex, index-slot}
 use Rattle.pass.specs.Signal.{acquire, withOverflow}
 use Rattle.tries.specs.Change.{takenSlot, takenOver, unlinks, leftSlot, leftFree}
-use Rattle.acquire.proofs.Acquires.{slot-in, acquire-in, acquire-out}
-
--- a slot's number has the place before it
-pub index-slot : (k : ℕ) → isSlot k ≡ true → slotIndex k ≡ k - 1
-unfolding slotIndex
-index-slot k e =
-    let h = slot-in k e in
-    rw (ne-eqb k 0 (λ z. omega (arith, h)), le-ltb 128 k (omega (arith, h)))
+use Rattle.acquire.proofs.Acquires.{acquire-in, acquire-out}
 
 abbrev pub tookStore : ObjectStore → ℕ → ℕ → ℕ → ObjectStore
 tookStore s k w p = withOverflow (withSlots s (set (s .slots) p (takenSlot k (getD (s .slots) p noSlot) w))) (takenOver (s .overflow) k (getD (s .slots) p noSlot))
@@ -42,7 +35,7 @@ acquire-at s k w p n e = go (isSlot k) refl
     x = getD (s .slots) p noSlot
 
     go : (b : Bool) → isSlot k ≡ b → acquire s k w ≡ tookStore s k w p
-    go true h = rw (h, e ∙ index-slot k h) (acquire-in s k w (λ z. omega (arith, slot-in k h)))
+    go true h = rw (h, e ∙ index-slot k h) (acquire-in s k w (λ z. omega (arith, slot-some k h)))
     go false h = rw (h, set-getD (s .slots) p noSlot) (acquire-out s k w n h)
 
 abbrev pub leftStore : ObjectStore → ℕ → ℕ → ObjectStore
@@ -66,19 +59,13 @@ put-length l zero v = refl
 put-length l (suc i) v = length-set l i v
 
 module _ (s : ObjectStore) (k : ℕ) where
-  far : isSlot k ≡ false → length (s .slots) ≡ 128 → 0 < k → length (s .slots) < k
-  far e n h = elim (lt-cases k 129) [
-    | inl g ↦ false-true (sym e ∙ true-and (ltb 0 k) (ltb k 129) (lt-ltb 0 k h) (lt-ltb k 129 g))
-    | inr g ↦ omega arith
-  ]
-
   free-as : (z : Slot) → slotAt (s .slots) k ≡ z → (b : Bool) → isFree (z .object) ≡ b → isFree (objectAt s k) ≡ b
   free-as z p b e = ap (λ (v : Slot). isFree (v .object)) p ∙ e
 
   -- a number that no slot has
   release-out : length (s .slots) ≡ 128 → isSlot k ≡ false → release s k ≡ s
   unfolding release
-  release-out n e = pick-yes (isFree (objectAt s k)) s _ (free-as noSlot (slotAt-out (s .slots) k (far e n)) true refl)
+  release-out n e = pick-yes (isFree (objectAt s k)) s _ (free-as noSlot (slotAt-out (s .slots) k (λ h. omega (arith, n, slot-past k e h))) true refl)
 
   abbrev x : Slot
   x = getD (s .slots) (k - 1) noSlot
@@ -127,14 +114,14 @@ module _ (s : ObjectStore) (k : ℕ) where
   unfolding _and_
   release-in h false two e f u =
       rw (h, e)
-      (release-dead (λ z. omega (arith, slot-in k h)) (eq-eqb (kindNumber (x .object)) 0 (omega (arith, ltb-false 0 (kindNumber (x .object)) e)))
+      (release-dead (λ z. omega (arith, slot-some k h)) (eq-eqb (kindNumber (x .object)) 0 (omega (arith, ltb-false 0 (kindNumber (x .object)) e)))
       ∙ sym (ap (λ l. withSlots s l) (set-getD (s .slots) (k - 1) noSlot)))
   release-in h true true e f u =
-      let p : k ≢ 0 = λ z. omega (arith, slot-in k h) in
+      let p : k ≢ 0 = λ z. omega (arith, slot-some k h) in
       let d = ne-eqb (kindNumber (x .object)) 0 (λ z. omega (arith, ltb-true 0 (kindNumber (x .object)) e)) in
       rw (h, e, f, le-ltb (x .refcount) 2 (leb-true 2 (x .refcount) f)) (release-live p true d f ∙ release-more p)
   release-in h true false e f u =
-      let p : k ≢ 0 = λ z. omega (arith, slot-in k h) in
+      let p : k ≢ 0 = λ z. omega (arith, slot-some k h) in
       let d = ne-eqb (kindNumber (x .object)) 0 (λ z. omega (arith, ltb-true 0 (kindNumber (x .object)) e)) in
       let l : x .refcount < 2 = leb-false 2 (x .refcount) f in
       let g : headOf (x .object) ≡ 0 = omega (arith, ltb-false 0 (headOf (x .object)) (rw (h, e, lt-ltb (x .refcount) 2 l) at u)) in

@@ -1,21 +1,22 @@
 -- A list of objects as it is looked over: the first that is signalled, or the first that is not.
-use mathlib.Core.Path.{_≡_, refl, ap, sym}
+use mathlib.Core.Path.{_≡_, refl, ap, sym, _∙_}
 use mathlib.Core.Bool.{Bool, true, false, not}
 use mathlib.Core.List.{List, [], _∷_}
 use Prim.Native.Nat.{ℕ, _+_, _-_}
 use native.Mathlib.Omega.{arith}
-use lib.Dec.{eqb, ltb}
+use lib.Dec.{ltb}
 use lib.ListN.{length, getD, List·getD-eq-default}
-use borrow.Author.Tests.{eqb-true, eqb-false, ltb-true, ltb-false}
-use Rattle.laws.specs.Logic.{pick, _and_, _or_}
+use borrow.Author.Tests.{ltb-false}
+use Rattle.laws.specs.Logic.{pick, _and_}
 use Rattle.types.specs.declared.thread.Thread as th
 use Rattle.types.specs.declared.object.KObject.{KObject}
 use Rattle.types.specs.declared.object.KObject.the-variants.{Free}
 use Rattle.types.specs.declared.object.Slot.{Slot}
 use Rattle.types.specs.declared.object.ObjectStore.{ObjectStore}
 use Rattle.types.specs.Thread.{isDead}
-use Rattle.sound.specs.View.{objectAt, slotAt, noSlot, slotAt-pos, slotAt-out, threadAt, noThread}
-use Rattle.tally.specs.Place.{slotIndex}
+use Rattle.sound.specs.View.{objectAt, slotAt, noSlot, threadAt, noThread}
+use Rattle.tally.specs.Place.{isSlot, slotIndex}
+use Rattle.object.proofs.Laws.{slot-in}
 use Rattle.pass.specs.declared.IndexOption.{IndexOption}
 use Rattle.pass.specs.declared.IndexOption.the-variants.{NoIndex, SomeIndex}
 use Rattle.acquire.specs.Looks.{threadNamed, signaledFor, signaled-is}
@@ -24,18 +25,14 @@ use Rattle.pass.specs.Waits.{allSignaled, firstSignaled, satisfiedAt}
 
 -- the object o, whose slot is x; a number that no slot has names a dead slot
 abbrev pub objectIn : ℕ → Slot → KObject
-objectIn o x = pick (eqb o 0 or ltb 128 o) (Free 0) (x .object)
-
-object-as : (l : List Slot) (o : ℕ) → length l ≡ 128 → (a b : Bool) → eqb o 0 ≡ a → ltb 128 o ≡ b
-    → pick (a or b) (Free 0) (getD l (pick a 0 (pick b 0 (o - 1))) noSlot .object) ≡ slotAt l o .object
-unfolding _or_
-object-as l o n true b e f = ap (λ (x : Slot). x .object) (sym (slotAt-out l o (λ h. absurd (omega (arith, eqb-true o 0 e)))))
-object-as l o n false true e f = ap (λ (x : Slot). x .object) (sym (slotAt-out l o (λ h. omega (arith, ltb-true 128 o f))))
-object-as l o n false false e f = ap (λ (x : Slot). x .object) (sym (slotAt-pos l o (eqb-false o 0 e)))
+objectIn o x = pick (isSlot o) (x .object) (Free 0)
 
 pub object-is : (l : List Slot) (o : ℕ) → length l ≡ 128 → objectIn o (getD l (slotIndex o) noSlot) ≡ slotAt l o .object
-unfolding slotIndex
-object-is l o n = object-as l o n (eqb o 0) (ltb 128 o) refl refl
+object-is l o n = go (isSlot o) (getD l (slotIndex o) noSlot) ∙ ap (λ (x : Slot). x .object) (slot-in l o n)
+  where
+    go : (b : Bool) (x : Slot) → pick b (x .object) (Free 0) ≡ pick b x noSlot .object
+    go true x = refl
+    go false x = refl
 
 -- whether the thread u is Dead, looked up at a place that is there
 gone-as : (ts : List th.Thread) (u : ℕ) → length ts ≡ 32 → (b : Bool) → ltb u 32 ≡ b → pick b (isDead (getD ts (pick b u 0) noThread .status)) true ≡ isDead (threadAt ts u .status)

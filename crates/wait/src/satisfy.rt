@@ -19,13 +19,10 @@ ghost use Rattle.wait.specs.Looks.{objectIn, namedIndex, looked, asWante
 fn object_in(o: u32, x: Slot) -> KObject
     ensures { λ r. ⌜ r ≡ objectIn o x ⌝ }
 {
-    if o == 0 {
-        return KObject::Free(0);
+    if tally::place::is_slot(o) {
+        return x.object;
     }
-    if 128 < o {
-        return KObject::Free(0);
-    }
-    x.object
+    KObject::Free(0)
 }
 
 // A place to look at for thread u: its own, or the first if it has none.

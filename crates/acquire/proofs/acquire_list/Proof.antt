@@ -6,7 +6,8 @@ use lib.ListN.{getD, length, length-map, length-set, take, drop}
 use Rattle.sound.specs.View.{ids}
 use Rattle.object.proofs.Laws.{list-at, list-end, list-over}
 use Rattle.pass.specs.Signal.{acquires}
-use Rattle.acquire.proofs.Acquires.{slot-in, acquire-in, acquire-out}
+use Rattle.acquire.proofs.Acquires.{acquire-in, acquire-out}
+use Rattle.tally.specs.Place.{slot-some}
 use borrow.Author.Needs.{needs}
 use Rattle.acquire.proofs.acquire_list.Statement.{statement}
 use Rattle.acquire.proofs.acquire_list.Tie as tie
@@ -44,25 +45,25 @@ sub-j : tie.Need-sub-j Inv-loop μ-loop
 sub-j c =
     let l = c .before .before .before .before .before .loop in
     let a = c .before .before .before .before .before .before .args in
-    omega (arith, slot-in (getD (a .t2) (l .i) (record { 0 = 0 }) .0) (sym (c .before .is-slot .ensures) ∙ c .if2 .taken))
+    omega (arith, slot-some (getD (a .t2) (l .i) (record { 0 = 0 }) .0) (sym (c .before .is-slot .ensures) ∙ c .if2 .taken))
 
 cast-j : tie.Need-cast-j Inv-loop μ-loop
 cast-j c =
     let l = c .before .before .before .before .before .loop in
     let a = c .before .before .before .before .before .before .args in
-    omega (arith, slot-in (getD (a .t2) (l .i) (record { 0 = 0 }) .0) (sym (c .before .is-slot .ensures) ∙ c .if2 .taken))
+    omega (arith, slot-some (getD (a .t2) (l .i) (record { 0 = 0 }) .0) (sym (c .before .is-slot .ensures) ∙ c .if2 .taken))
 
 mul-old : tie.Need-mul-old Inv-loop μ-loop
 mul-old c =
     let l = c .before .before .before .before .before .loop in
     let a = c .before .before .before .before .before .before .args in
-    omega (arith, slot-in (getD (a .t2) (l .i) (record { 0 = 0 }) .0) (sym (c .before .is-slot .ensures) ∙ c .if2 .taken))
+    omega (arith, slot-some (getD (a .t2) (l .i) (record { 0 = 0 }) .0) (sym (c .before .is-slot .ensures) ∙ c .if2 .taken))
 
 element-copy-out-old : tie.Need-element-copy-out-old Inv-loop μ-loop
 element-copy-out-old c =
     let l = c .before .before .before .before .before .loop in
     let a = c .before .before .before .before .before .before .args in
-    omega (arith, slot-in (getD (a .t2) (l .i) (record { 0 = 0 }) .0) (sym (c .before .is-slot .ensures) ∙ c .if2 .taken))
+    omega (arith, slot-some (getD (a .t2) (l .i) (record { 0 = 0 }) .0) (sym (c .before .is-slot .ensures) ∙ c .if2 .taken))
 
 over-after-requires : tie.Need-over-after-requires Inv-loop μ-loop
 over-after-requires c κs = search needs
@@ -74,13 +75,13 @@ mul-t20 : tie.Need-mul-t20 Inv-loop μ-loop
 mul-t20 c =
     let l = c .before .before .before .before .before .before .before .before .loop in
     let a = c .before .before .before .before .before .before .before .before .before .args in
-    omega (arith, slot-in (getD (a .t2) (l .i) (record { 0 = 0 }) .0) (sym (c .before .before .before .before .is-slot .ensures) ∙ c .before .before .before .if2 .taken))
+    omega (arith, slot-some (getD (a .t2) (l .i) (record { 0 = 0 }) .0) (sym (c .before .before .before .before .is-slot .ensures) ∙ c .before .before .before .if2 .taken))
 
 element-set-from-q : tie.Need-element-set-from-q Inv-loop μ-loop
 element-set-from-q c =
     let l = c .before .before .before .before .before .before .before .before .loop in
     let a = c .before .before .before .before .before .before .before .before .before .args in
-    omega (arith, slot-in (getD (a .t2) (l .i) (record { 0 = 0 }) .0) (sym (c .before .before .before .before .is-slot .ensures) ∙ c .before .before .before .if2 .taken))
+    omega (arith, slot-some (getD (a .t2) (l .i) (record { 0 = 0 }) .0) (sym (c .before .before .before .before .is-slot .ensures) ∙ c .before .before .before .if2 .taken))
 
 add-i : tie.Need-add-i Inv-loop μ-loop
 add-i c = search needs
@@ -101,7 +102,7 @@ loop-again c =
       (
         l .inv .1 .0,
         ⊎-elim
-            (λ w. (rw (w .4, length-set) n, rw (w .4, w .3 .ensures, w .2 .ensures, ← acquire-in (l .q) k (a .w) (omega (arith, slot-in k (sym (c .before .is-slot .ensures) ∙ w .0 .taken)))) r))
+            (λ w. (rw (w .4, length-set) n, rw (w .4, w .3 .ensures, w .2 .ensures, ← acquire-in (l .q) k (a .w) (omega (arith, slot-some k (sym (c .before .is-slot .ensures) ∙ w .0 .taken)))) r))
             (λ w. (rw (w .1) n, rw (w .1, ← acquire-out (l .q) k (a .w) n (sym (c .before .is-slot .ensures) ∙ w .0 .left)) r))
             (c .if2 .came),
       ),

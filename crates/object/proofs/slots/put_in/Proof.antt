@@ -3,14 +3,14 @@ use borrow.Author.Needs.{needs}
 use Rattle.object.proofs.slots.put_in.Statement.{statement}
 use Rattle.object.proofs.slots.put_in.Tie as tie
 
-has-slot-requires : tie.Need-has-slot-requires
-has-slot-requires c κs = search needs
+is-slot-requires : tie.Need-is-slot-requires
+is-slot-requires c κs = search needs
 
 returns : tie.Need-returns
-returns c = rw (sym (c .before .has-slot .ensures) ∙ c .if1 .taken)
+returns c = rw (sym (c .before .is-slot .ensures) ∙ c .if1 .taken)
 
 returns-2 : tie.Need-returns-2
-returns-2 c = rw (sym (c .before .has-slot .ensures) ∙ c .if1 .left)
+returns-2 c = rw (sym (c .before .is-slot .ensures) ∙ c .if1 .left)
 
 pub put-in-spec : {M : Type 1} → statement M
-put-in-spec = tie.close (tie.spec has-slot-requires returns returns-2)
+put-in-spec = tie.close (tie.spec is-slot-requires returns returns-2)

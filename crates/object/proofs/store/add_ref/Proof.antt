@@ -6,8 +6,8 @@ use borrow.Author.Needs.{needs}
 use Rattle.object.proofs.store.add_ref.Statement.{statement}
 use Rattle.object.proofs.store.add_ref.Tie as tie
 
-index-of-requires : tie.Need-index-of-requires
-index-of-requires c κs = search needs
+slot-index-requires : tie.Need-slot-index-requires
+slot-index-requires c κs = search needs
 
 mul-put-in : tie.Need-mul-put-in
 mul-put-in c = search needs
@@ -38,13 +38,13 @@ returns c =
     let b = c .before .before .before .before .before in
     let s = b .args .s in
     let n : length (s .slots) ≡ 128 = sym (length-map (s .slots) _) ∙ b .good .0 .1 .1 .0 .1 .0 .1 in
-    rw (c .put-in .ensures, c .before .held .ensures, c .before .before .before .before .index-of .ensures .0, put-in held (s .slots) (b .args .o .0) n) (sym (add-ref-held s (b .args .o .0)))
+    rw (c .put-in .ensures, c .before .held .ensures, c .before .before .before .before .slot-index .ensures .0, put-in held (s .slots) (b .args .o .0) n) (sym (add-ref-held s (b .args .o .0)))
 
 pub add-ref-spec : {M : Type 1} → statement M
 add-ref-spec =
     tie.close
     (tie.spec
-    index-of-requires
+    slot-index-requires
     mul-put-in
     element-copy-out-put-in
     mul-held

@@ -36,8 +36,8 @@ mul-o c = search needs
 array-copy-out-o : tie.Need-array-copy-out-o Inv-loop μ-loop
 array-copy-out-o c = search needs
 
-index-of-requires : tie.Need-index-of-requires Inv-loop μ-loop
-index-of-requires c κs = search needs
+slot-index-requires : tie.Need-slot-index-requires Inv-loop μ-loop
+slot-index-requires c κs = search needs
 
 mul-put-in : tie.Need-mul-put-in Inv-loop μ-loop
 mul-put-in c = search needs
@@ -76,7 +76,7 @@ loop-again c =
     let s = c .before .before .before .before .before .before .before .before .before in
     let e = list-at (s .args .t2) (s .args .n) (l .i) (c .before .before .before .before .before .before .if1 .left) (omega arith) in
     let o : ObjectId = getD (s .args .t2) (l .i) (record { 0 = 0 }) in
-    (search needs, (search needs, (length-set (l .q .slots) _ _ ∙ l .inv .1 .1 .0, rw (c .put-in .ensures, c .before .held .ensures, c .before .before .before .before .index-of .ensures .0, put-in held (l .q .slots) (o .0) (l .inv .1 .1 .0), sym (add-ref-held (l .q) (o .0))) (rw e at (l .inv .1 .1 .1)))))
+    (search needs, (search needs, (length-set (l .q .slots) _ _ ∙ l .inv .1 .1 .0, rw (c .put-in .ensures, c .before .held .ensures, c .before .before .before .before .slot-index .ensures .0, put-in held (l .q .slots) (o .0) (l .inv .1 .1 .0), sym (add-ref-held (l .q) (o .0))) (rw e at (l .inv .1 .1 .1)))))
 
 returns-2 : tie.Need-returns-2 Inv-loop μ-loop
 unfolding addRefs
@@ -96,7 +96,7 @@ add-ref-list-spec =
     returns
     mul-o
     array-copy-out-o
-    index-of-requires
+    slot-index-requires
     mul-put-in
     element-copy-out-put-in
     mul-held

@@ -7,8 +7,8 @@ use borrow.Author.Needs.{needs}
 use Rattle.object.proofs.store.content.Statement.{statement}
 use Rattle.object.proofs.store.content.Tie as tie
 
-index-of-requires : tie.Need-index-of-requires
-index-of-requires c κs = search needs
+slot-index-requires : tie.Need-slot-index-requires
+slot-index-requires c κs = search needs
 
 mul-old : tie.Need-mul-old
 mul-old c = search needs
@@ -31,13 +31,13 @@ returns c =
     let b = c .before .before .before in
     let s = b .args .s in
     let n : length (s .slots) ≡ 128 = sym (length-map (s .slots) _) ∙ b .good .0 .1 .1 .0 .1 .0 .1 in
-    rw (c .put-in .ensures, c .before .before .index-of .ensures .0, put-in (λ (x : Slot). withObject x (b .args .v)) (s .slots) (b .args .o .0) n)
+    rw (c .put-in .ensures, c .before .before .slot-index .ensures .0, put-in (λ (x : Slot). withObject x (b .args .v)) (s .slots) (b .args .o .0) n)
 
 pub content-spec : {M : Type 1} → statement M
 content-spec =
     tie.close
     (tie.spec
-    index-of-requires
+    slot-index-requires
     mul-old
     element-copy-out-old
     put-in-requires

@@ -8,8 +8,8 @@ use borrow.Author.Needs.{needs}
 use Rattle.object.proofs.store.insert.Statement.{statement}
 use Rattle.object.proofs.store.insert.Tie as tie
 
-index-of-requires : tie.Need-index-of-requires
-index-of-requires c κs = search needs
+slot-index-requires : tie.Need-slot-index-requires
+slot-index-requires c κs = search needs
 
 mul-slot-in : tie.Need-mul-slot-in
 mul-slot-in c = search needs
@@ -47,15 +47,15 @@ returns c =
     let b = c .before .before .before .before .before .before .before .before in
     let s = b .args .s in
     let n : length (s .slots) ≡ 128 = sym (length-map (s .slots) _) ∙ b .good .0 .1 .1 .0 .1 .0 .1 in
-    let old : c .before .before .before .before .before .slot-in .result ≡ slotAt (s .slots) (s .free) = (rw (c .before .before .before .before .before .before .before .index-of .ensures .0) at (c .before .before .before .before .before .slot-in .ensures)) ∙ slot-in (s .slots) (s .free) n in
+    let old : c .before .before .before .before .before .slot-in .result ≡ slotAt (s .slots) (s .free) = (rw (c .before .before .before .before .before .before .before .slot-index .ensures .0) at (c .before .before .before .before .before .slot-in .ensures)) ∙ slot-in (s .slots) (s .free) n in
     let v : Slot = record { object = b .args .v; refcount = 1; pulsed = slotAt (s .slots) (s .free) .pulsed } in
-    rw (c .either .ensures, c .before .before .next-of .ensures, c .before .before .before .put-in .ensures, old, c .before .before .before .before .before .before .before .index-of .ensures .0, put-in (λ (x : Slot). v) (s .slots) (s .free) n)
+    rw (c .either .ensures, c .before .before .next-of .ensures, c .before .before .before .put-in .ensures, old, c .before .before .before .before .before .before .before .slot-index .ensures .0, put-in (λ (x : Slot). v) (s .slots) (s .free) n)
 
 pub insert-spec : {M : Type 1} → statement M
 insert-spec =
     tie.close
     (tie.spec
-    index-of-requires
+    slot-index-requires
     mul-slot-in
     element-copy-out-slot-in
     slot-in-requires
