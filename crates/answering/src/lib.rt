@@ -7,7 +7,6 @@ use object::store;
 use svc::Served;
 use svc::WordOption;
 use types::kernel::Kernel;
-use types::object::HandleTable;
 use types::object::KObject;
 use types::object::ObjectStore;
 use units::Handle;
@@ -78,15 +77,6 @@ pub fn with_objects(k: Kernel, s: ObjectStore) -> Kernel
     q
 }
 
-pub fn with_handles(k: Kernel, t: HandleTable, s: ObjectStore) -> Kernel
-    ensures { λ q. ⌜ q ≡ def.withHandles k t s ⌝ }
-{
-    let mut q = k;
-    q.handles = t;
-    q.objects = s;
-    q
-}
-
 // Two registers as a number of 64 bits.
 pub fn pair(low: u32, high: u32) -> u64
     ensures { λ n. ⌜ n ≡ def.pair low high ⌝ }
@@ -151,19 +141,4 @@ pub fn object_at(s: ObjectStore, o: ObjectId) -> KObject
 {
     let slot = slots::slot_at(s, o);
     slot.object
-}
-
-// A new object with a handle, which r1 gets.
-pub fn create_object(k: Kernel, v: KObject) -> Served
-    ensures { λ s. ⌜ s ≡ def.createObject k v ⌝ }
-{
-    let before = k.objects;
-    let table = k.handles;
-    let h = table.next;
-    let entries = handles::give(table, ObjectId(before.free));
-    let objects = store::insert(before, v);
-    let mut q = k;
-    q.handles = entries;
-    q.objects = objects;
-    gives(q, h.0)
 }

@@ -33,7 +33,7 @@ pub fn wake_tick(timeout: TickOption, tick: u64) -> TickOption
     }
 }
 
-fn waiting(t: Thread, l: [ObjectId; 8], n: u32, all: bool, wake: TickOption) -> Thread
+pub fn waiting(t: Thread, l: [ObjectId; 8], n: u32, all: bool, wake: TickOption) -> Thread
     ensures { λ r. ⌜ r ≡ def.waiting t l n all wake ⌝ }
 {
     let since = t.running_since;
@@ -132,7 +132,7 @@ pub fn begin_wait(
     begin_wait_as(current, k, l, n, all, timeout, tick)
 }
 
-fn sleeping(t: Thread, wake: u64) -> Thread
+pub fn sleeping(t: Thread, wake: u64) -> Thread
     ensures { λ r. ⌜ r ≡ def.sleeping t wake ⌝ }
 {
     let c = thread::thread::without_wait(t);
@@ -159,43 +159,4 @@ fn sleeping(t: Thread, wake: u64) -> Thread
         wait_syscall: call,
         guest_id: c.guest_id,
     }
-}
-
-fn put_sleeping(ts: [Thread; 32], c: u32, wake: u64) -> [Thread; 32]
-    ensures { λ r. ⌜ r ≡ set ts c (def.sleeping (threadAt ts c) wake) ⌝ }
-{
-    if 32 <= c {
-        return ts;
-    }
-    let i = c as usize;
-    let mut q = ts;
-    q[i] = sleeping(q[i], wake);
-    q
-}
-
-fn sleep_at(c: u32, k: Kernel, ticks: u64, tick: u64) -> Kernel
-    ensures { λ r. ⌜ r ≡ def.sleepAs (ThreadOption.SomeThread c) k ticks tick ⌝ }
-{
-    let ts = k.threads;
-    let threads = put_sleeping(ts, c, saturating_add(tick, ticks));
-    let mut q = k;
-    q.threads = threads;
-    q
-}
-
-fn sleep_as(current: ThreadOption, k: Kernel, ticks: u64, tick: u64) -> Kernel
-    ensures { λ r. ⌜ r ≡ def.sleepAs current k ticks tick ⌝ }
-{
-    match current {
-        ThreadOption::NoThread => k,
-        ThreadOption::SomeThread(c) => sleep_at(c, k, ticks, tick),
-    }
-}
-
-// Result and call kind of an older wait stay.
-pub fn sleep_current(k: Kernel, ticks: u64, tick: u64) -> Kernel
-    ensures { λ r. ⌜ r ≡ def.sleepCurrent k ticks tick ⌝ }
-{
-    let current = k.current_thread;
-    sleep_as(current, k, ticks, tick)
 }

@@ -51,7 +51,7 @@ pub fn head_words(k: Kernel) -> Head
     }
 }
 
-fn put_head(b: &mut [u8], h: Head)
+pub fn put_head(b: &mut [u8], h: Head)
     requires { ⌜ length (now b) ≡ 128 ⌝ }
     ensures { λ _. ⌜ now (b .exit) ≡ encHead h ⌝ }
 {

@@ -215,7 +215,7 @@ pub fn get_slot(s: &[u8]) -> Slot
     }
 }
 
-fn put_slot(b: &mut [u8], x: Slot)
+pub fn put_slot(b: &mut [u8], x: Slot)
     requires { ⌜ length (now b) ≡ 40 ⌝ }
     ensures { λ _. ⌜ now (b .exit) ≡ encSlot x ⌝ }
 {

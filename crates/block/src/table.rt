@@ -22,7 +22,7 @@ pub fn get_entry(s: &[u8]) -> HandleEntry
     }
 }
 
-fn put_entry(b: &mut [u8], x: HandleEntry)
+pub fn put_entry(b: &mut [u8], x: HandleEntry)
     requires { ⌜ length (now b) ≡ 8 ⌝ }
     ensures { λ _. ⌜ now (b .exit) ≡ encEntry x ⌝ }
 {
@@ -58,7 +58,7 @@ pub fn get_id(s: &[u8]) -> ObjectId
     ObjectId(codec::get32(s, 0))
 }
 
-fn put_id(b: &mut [u8], x: ObjectId)
+pub fn put_id(b: &mut [u8], x: ObjectId)
     requires { ⌜ length (now b) ≡ 4 ⌝ }
     ensures { λ _. ⌜ now (b .exit) ≡ encId x ⌝ }
 {

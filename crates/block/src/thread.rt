@@ -130,7 +130,7 @@ fn put_words(b: &mut [u8], w: ThreadWords)
     codec::put64(b, 72, w.running_since);
 }
 
-fn put_thread(b: &mut [u8], x: Thread)
+pub fn put_thread(b: &mut [u8], x: Thread)
     requires { ⌜ length (now b) ≡ 160 ⌝ }
     ensures { λ _. ⌜ now (b .exit) ≡ encThread x ⌝ }
 {

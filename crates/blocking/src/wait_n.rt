@@ -86,7 +86,7 @@ fn open_all(
 }
 
 // The object at a place of the first n; none past them.
-fn object_at(l: [ObjectId; 8], n: u32, i: u32) -> ObjectId
+pub fn object_at(l: [ObjectId; 8], n: u32, i: u32) -> ObjectId
     ensures { λ r. ⌜ r .0 ≡ getD (take n (ids l)) i 0 ⌝ }
 {
     if n <= i {

@@ -29,7 +29,7 @@ ghost use Rattle.svc.specs.Waits as def;
 ghost use Rattle.blocking.specs.Waits.{waitOnIn};
 
 // A negative time waits for good.
-fn wait_time(nanos: u64) -> TickOption
+pub fn wait_time(nanos: u64) -> TickOption
     ensures { λ r. ⌜ r ≡ def.waitTime nanos ⌝ }
 {
     if answering::negative(nanos) {
@@ -38,7 +38,7 @@ fn wait_time(nanos: u64) -> TickOption
     TickOption::SomeTick(units::nanos_to_ticks(Nanos(nanos)))
 }
 
-fn with_call(t: Thread, call: WaitSyscall) -> Thread
+pub fn with_call(t: Thread, call: WaitSyscall) -> Thread
     ensures { λ r. ⌜ r ≡ withResult t (t .«wait_result») call ⌝ }
 {
     let result = t.wait_result;

@@ -2,21 +2,8 @@
 use svc::Registers;
 use svc::Served;
 use types::kernel::Kernel;
-use units::Handle;
 ghost use mathlib.Core.Path.{_≡_};
 ghost use Rattle.svc.specs.Handles as def;
-
-// An unknown handle is done, a pseudo-handle too.
-pub fn close_handle(k: Kernel, r: Registers) -> Served
-    ensures { λ s. ⌜ s ≡ def.closeHandle k r ⌝ }
-{
-    let before = k.handles;
-    let held = k.objects;
-    let b = object::handles::close(before, held, Handle(r.r0));
-    let table = b.table;
-    let objects = b.store;
-    answering::done(answering::with_handles(k, table, objects))
-}
 
 pub fn duplicate_handle(k: Kernel, r: Registers) -> Served
     ensures { λ s. ⌜ s ≡ def.duplicateHandle k r ⌝ }

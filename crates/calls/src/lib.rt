@@ -1,6 +1,4 @@
-// The guest calls on mutexes, semaphores, events, timers and handles (svc.rs).
-pub mod arbiter;
+// Guest calls on timers and handles over the whole state, for the cases that the calls in the block leave to them (svc.rs).
 pub mod handles;
 pub mod kinds;
-pub mod sync;
 pub mod timers;

@@ -16,22 +16,6 @@ ghost use Rattle.svc.specs.Call.{pair};
 ghost use Rattle.svc.specs.Timers as def;
 ghost use Rattle.calls.specs.Kinds.{timerOf};
 
-// It is stopped.
-pub fn create_timer(k: Kernel, r: Registers) -> Served
-    ensures { λ s. ⌜ s ≡ def.createTimer k r ⌝ }
-{
-    let kind = types::sync::reset_from_raw(r.r1);
-    answering::create_object(
-        k,
-        KObject::Timer(Timer {
-            reset_type: kind,
-            signaled: false,
-            fire_at: TickOption::NoTick,
-            interval: Ticks(0),
-        }),
-    )
-}
-
 // Timers that came due by the tick have fired.
 fn caught_up(k: Kernel, tick: u64) -> Kernel
     ensures { λ q. ⌜ q ≡ def.caughtUp k tick ⌝ }
@@ -73,7 +57,7 @@ fn set_to(t: Timer, initial: u64, interval: u64, tick: u64) -> Timer
 }
 
 // The timer x, set by the registers.
-fn set_by(x: KObject, r: Registers, tick: u64) -> Timer
+pub fn set_by(x: KObject, r: Registers, tick: u64) -> Timer
     ensures { λ t. ⌜ t ≡ def.setTo (timerOf x) (def.notBelow (pair (r .r2) (r .r3))) (def.notBelow (pair (r .r1) (r .r4))) tick ⌝ }
 {
     let t = kinds::timer_of(x);
@@ -112,7 +96,7 @@ fn stopped(t: Timer) -> Timer
     }
 }
 
-fn cancelled(x: KObject) -> KObject
+pub fn cancelled(x: KObject) -> KObject
     ensures { λ r. ⌜ r ≡ def.cancelled x ⌝ }
 {
     match x {

@@ -3,20 +3,21 @@ pub mod results;
 
 use codec::Two;
 use lent::questions;
-use types::kernel::Kernel;
+use types::thread::WaitResult;
+use types::thread::WaitSyscall;
 ghost use mathlib.Core.Path.{_≡_};
-ghost use mathlib.Core.List.{[]};
+ghost use mathlib.Core.List.{[], _++_};
 ghost use lib.ListN.{length};
+ghost use Rattle.codec.specs.Bytes.{bytes};
+ghost use Rattle.types.specs.Thread.{resultNumber, resultIndex, syscallNumber};
 ghost use Rattle.lent.specs.Lent.{lent, back};
 ghost use Rattle.lent.specs.Guest as def;
 
 // The result, its index, and the kind of the call that waited.
-fn put_collected(answer: &mut [u8], k: Kernel)
+fn put_collected(answer: &mut [u8], result: WaitResult, call: WaitSyscall)
     requires { ⌜ length (now answer) ≡ 12 ⌝ }
-    ensures { λ _. ⌜ now (answer .exit) ≡ def.collectBytes k ⌝ }
+    ensures { λ _. ⌜ now (answer .exit) ≡ (bytes 4 (resultNumber result) ++ bytes 4 (resultIndex result)) ++ bytes 4 (syscallNumber call) ⌝ }
 {
-    let result = results::collected_result(k);
-    let call = results::collected_syscall(k);
     let number = types::thread::result_number(result);
     let index = types::thread::result_index(result);
     let kind = types::thread::syscall_number(call);
@@ -33,19 +34,18 @@ pub fn operate(block: &mut [u8], answer: &mut [u8]) -> u32
     if answer.len() != 12 {
         return 1;
     }
-    let k = block::decode(block);
     if !questions::block_ok(block) {
         return 2;
     }
-    if !table::questions::runs(k) {
+    if !table::questions::runs(block) {
         return 4;
     }
-    let after = results::collect(k);
-    let found = questions::first_finding(after);
-    if found != 0 {
-        return found;
+    if outcome::out_of_handles(block) {
+        return 8;
     }
-    block::encode(block, after);
-    put_collected(answer, k);
+    let result = results::collected_result(block);
+    let call = results::collected_syscall(block);
+    results::collect(block);
+    put_collected(answer, result, call);
     0
 }

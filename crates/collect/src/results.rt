@@ -1,105 +1,110 @@
 // Collect: the current thread's recorded result of a wait and the call that it was for are handed out and cleared.
-use types::kernel::Kernel;
-use types::thread::Thread;
+use rows::read;
+use rows::write;
 use types::thread::ThreadOption;
 use types::thread::WaitResult;
 use types::thread::WaitSyscall;
 ghost use mathlib.Core.Path.{_≡_};
-ghost use Prim.Native.Nat.{_-_, _<_};
-ghost use lib.ListN.{set};
+ghost use mathlib.Core.Bool.{true};
+ghost use lib.ListN.{length};
+ghost use Rattle.block.specs.Block.{decBlock};
 ghost use Rattle.sound.specs.View.{threadAt};
+ghost use Rattle.sound.specs.Question.{sound?};
 ghost use Rattle.thread.specs.Thread.{withResult};
 ghost use Rattle.svc.specs.Collect as def;
+ghost use Rattle.rows.specs.Rows.{threadPut};
+ghost use Rattle.rows.specs.Holds.{Holds};
 
 // A number past the places names no thread.
-fn result_at(ts: [Thread; 32], c: u32) -> WaitResult
-    ensures { λ r. ⌜ r ≡ threadAt ts c .«wait_result» ⌝ }
+fn result_at(block: &[u8], c: u32) -> WaitResult
+    requires { ⌜ length (now block) ≡ 16384 ⌝ }
+    ensures { λ r. ⌜ r ≡ threadAt (decBlock (now (block .entry)) .threads) c .«wait_result» ⌝ }
 {
     if 32 <= c {
         return WaitResult::NoResult;
     }
-    let t = ts[c as usize];
+    let t = read::thread_at(block, c);
     t.wait_result
 }
 
-fn result_as(current: ThreadOption, k: Kernel) -> WaitResult
-    ensures { λ r. ⌜ r ≡ def.resultAs current k ⌝ }
+fn result_as(current: ThreadOption, block: &[u8]) -> WaitResult
+    requires { ⌜ length (now block) ≡ 16384 ⌝ }
+    ensures { λ r. ⌜ r ≡ def.resultAs current (decBlock (now (block .entry))) ⌝ }
 {
     match current {
         ThreadOption::NoThread => WaitResult::NoResult,
-        ThreadOption::SomeThread(c) => {
-            let ts = k.threads;
-            result_at(ts, c)
-        }
+        ThreadOption::SomeThread(c) => result_at(block, c),
     }
 }
 
-pub fn collected_result(k: Kernel) -> WaitResult
-    ensures { λ r. ⌜ r ≡ def.collectedResult k ⌝ }
+pub fn collected_result(block: &[u8]) -> WaitResult
+    requires { ⌜ length (now block) ≡ 16384 ⌝ }
+    ensures { λ r. ⌜ r ≡ def.collectedResult (decBlock (now (block .entry))) ⌝ }
 {
-    let current = k.current_thread;
-    result_as(current, k)
+    let current = read::current(block);
+    result_as(current, block)
 }
 
-fn syscall_at(ts: [Thread; 32], c: u32) -> WaitSyscall
-    ensures { λ r. ⌜ r ≡ threadAt ts c .«wait_syscall» ⌝ }
+fn syscall_at(block: &[u8], c: u32) -> WaitSyscall
+    requires { ⌜ length (now block) ≡ 16384 ⌝ }
+    ensures { λ r. ⌜ r ≡ threadAt (decBlock (now (block .entry)) .threads) c .«wait_syscall» ⌝ }
 {
     if 32 <= c {
         return WaitSyscall::NoSyscall;
     }
-    let t = ts[c as usize];
+    let t = read::thread_at(block, c);
     t.wait_syscall
 }
 
-fn syscall_as(current: ThreadOption, k: Kernel) -> WaitSyscall
-    ensures { λ r. ⌜ r ≡ def.syscallAs current k ⌝ }
+fn syscall_as(current: ThreadOption, block: &[u8]) -> WaitSyscall
+    requires { ⌜ length (now block) ≡ 16384 ⌝ }
+    ensures { λ r. ⌜ r ≡ def.syscallAs current (decBlock (now (block .entry))) ⌝ }
 {
     match current {
         ThreadOption::NoThread => WaitSyscall::NoSyscall,
-        ThreadOption::SomeThread(c) => {
-            let ts = k.threads;
-            syscall_at(ts, c)
-        }
+        ThreadOption::SomeThread(c) => syscall_at(block, c),
     }
 }
 
-pub fn collected_syscall(k: Kernel) -> WaitSyscall
-    ensures { λ r. ⌜ r ≡ def.collectedSyscall k ⌝ }
+pub fn collected_syscall(block: &[u8]) -> WaitSyscall
+    requires { ⌜ length (now block) ≡ 16384 ⌝ }
+    ensures { λ r. ⌜ r ≡ def.collectedSyscall (decBlock (now (block .entry))) ⌝ }
 {
-    let current = k.current_thread;
-    syscall_as(current, k)
+    let current = read::current(block);
+    syscall_as(current, block)
 }
 
-fn put_collected(ts: [Thread; 32], c: u32) -> [Thread; 32]
-    ensures { λ r. ⌜ r ≡ set ts c (withResult (threadAt ts c) WaitResult.NoResult WaitSyscall.NoSyscall) ⌝ }
+fn clear_at(block: &mut [u8], c: u32)
+    requires { ⌜ length (now block) ≡ 16384 ⌝ }
+    ensures { λ _. ⌜ now (block .exit) ≡ threadPut (now (block .entry)) c (withResult (threadAt (decBlock (now (block .entry)) .threads) c) WaitResult.NoResult WaitSyscall.NoSyscall) ⌝ }
 {
     if 32 <= c {
-        return ts;
+        return;
     }
-    let i = c as usize;
-    let mut l = ts;
-    l[i] = thread::thread::with_result(l[i], WaitResult::NoResult, WaitSyscall::NoSyscall);
-    l
+    let t = read::thread_at(block, c);
+    write::put_thread(
+        block,
+        c,
+        thread::thread::with_result(t, WaitResult::NoResult, WaitSyscall::NoSyscall),
+    );
 }
 
-fn collect_as(current: ThreadOption, k: Kernel) -> Kernel
-    ensures { λ q. ⌜ q ≡ def.collectAs current k ⌝ }
+fn collect_as(current: ThreadOption, block: &mut [u8])
+    requires { ⌜ length (now block) ≡ 16384 ⌝ }
+    requires { ⌜ sound? (now block) ≡ true ⌝ }
+    ensures { λ _. ⌜ Holds (now (block .exit)) (def.collectAs current (decBlock (now (block .entry)))) ⌝ }
 {
     match current {
-        ThreadOption::NoThread => k,
-        ThreadOption::SomeThread(c) => {
-            let ts = k.threads;
-            let threads = put_collected(ts, c);
-            let mut q = k;
-            q.threads = threads;
-            q
-        }
+        ThreadOption::NoThread => {}
+        ThreadOption::SomeThread(c) => clear_at(block, c),
     }
 }
 
-pub fn collect(k: Kernel) -> Kernel
-    ensures { λ q. ⌜ q ≡ def.collect k ⌝ }
+pub fn collect(block: &mut [u8])
+    requires { ⌜ length (now block) ≡ 16384 ⌝ }
+    requires { ⌜ sound? (now block) ≡ true ⌝ }
+    ensures { λ _. ⌜ Holds (now (block .exit)) (def.collect (decBlock (now (block .entry)))) ⌝ }
 {
-    let current = k.current_thread;
-    collect_as(current, k)
+    let current = read::current(block);
+    collect_as(current, block);
 }

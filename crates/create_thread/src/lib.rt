@@ -1,20 +1,20 @@
 // The operation that makes a thread: its record, its row of the bank, and its number as the answer.
 use lent::questions;
-use types::kernel::Kernel;
 ghost use mathlib.Core.Path.{_≡_};
 ghost use mathlib.Core.List.{[]};
-ghost use Prim.Native.Nat.{_<_};
+ghost use Prim.Native.Nat.{_*_, _<_};
 ghost use lib.ListN.{length};
-ghost use Rattle.codec.specs.Bytes.{bytes};
-ghost use Rattle.thread.specs.Threads.{endedThread, tlsSlot};
+ghost use Rattle.codec.specs.Bytes.{bytes, over};
+ghost use Rattle.block.specs.Context.{encContext};
+ghost use Rattle.thread.specs.Thread.{newContext};
 ghost use Rattle.lent.specs.Lent.{lent, back};
-ghost use Rattle.lent.specs.Operations.{rowMade, createThread};
+ghost use Rattle.lent.specs.Operations.{createThread};
 
-// The row and the number, from the state before the thread was made.
+// The row of the bank and the number.
 fn put_made(
     bank: &mut [u8],
     answer: &mut [u8],
-    k: Kernel,
+    word: u32,
     id: u32,
     tls: u32,
     entry: u32,
@@ -23,13 +23,11 @@ fn put_made(
 )
     requires { ⌜ length (now bank) ≡ 6656 ⌝ }
     requires { ⌜ length (now answer) ≡ 4 ⌝ }
-    requires { ⌜ id ≡ endedThread k ⌝ }
-    requires { ⌜ tls ≡ tlsSlot k ⌝ }
     requires { ⌜ id < 32 ⌝ }
-    ensures { λ _. ⌜ now (bank .exit) ≡ rowMade (now (bank .entry)) k entry «stack_top» arg ⌝ }
-    ensures { λ _. ⌜ now (answer .exit) ≡ bytes 4 (endedThread k) ⌝ }
+    ensures { λ _. ⌜ now (bank .exit) ≡ over (now (bank .entry)) (id * 208) (encContext (newContext word entry «stack_top» arg tls)) ⌝ }
+    ensures { λ _. ⌜ now (answer .exit) ≡ bytes 4 id ⌝ }
 {
-    let context = thread::thread::new_context(k.status_word, entry, stack_top, arg, tls);
+    let context = thread::thread::new_context(word, entry, stack_top, arg, tls);
     block::context::put_row(bank, id, context);
     codec::put32(answer, 0, id);
 }
@@ -56,18 +54,16 @@ pub fn operate(
     if answer.len() != 4 {
         return 1;
     }
-    let k = block::decode(block);
     if !questions::block_ok(block) {
         return 2;
     }
-    let id = thread::places::ended_thread(k);
-    let tls = thread::places::tls_slot(k);
-    let after = thread::create::create_thread(k, id, tls, entry, stack_top, priority, processor_id);
-    let found = questions::first_finding(after);
+    let word = codec::get32(block, 0);
+    let id = vacant::ended_thread(block);
+    let tls = vacant::tls_slot(block);
+    let found = spawn::create_thread(block, id, tls, entry, stack_top, priority, processor_id);
     if found != 0 {
         return found;
     }
-    block::encode(block, after);
-    put_made(bank, answer, k, id, tls, entry, stack_top, arg);
+    put_made(bank, answer, word, id, tls, entry, stack_top, arg);
     0
 }

@@ -1,2 +1,3 @@
-// The dispatcher of guest calls (svc.rs): the calls by number, up to the block that one leaves.
+// The calls by number.
 pub mod call;
+pub mod whole;

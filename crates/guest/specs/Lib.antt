@@ -1,2 +1,3 @@
--- Which calls write a word.
+-- Which calls write a word; the row of a thread that a call makes.
 pub mod Word
+pub mod Made

@@ -34,25 +34,25 @@ pub fn operate(
     if !window::window_ok(window_base, window) {
         return 1;
     }
-    let k = block::decode(block);
     if !questions::block_ok(block) {
         return 2;
     }
     let r = registers::registers_for(number, processor);
-    let refused = table::questions::refusal(window_base, window.len() as u64, number, r, k);
+    let refused = table::questions::refusal(window_base, window.len() as u64, number, r, block);
     if refused != 0 {
         return refused;
     }
     let n = table::questions::words_read(number, r);
     let words = window::words_in(window, window_base, number, r, n);
-    let o = dispatch::call::call(block, number, k, r, words, n, tick);
+    let made = bank::made_by(block, number);
+    let o = dispatch::call::call(block, number, r, words, n, tick);
     if o.found != 0 {
         return o.found;
     }
     let r0 = o.r0;
     let r1 = o.r1;
     let word = o.word;
-    bank::put_bank(bank, number, k, r);
+    bank::put_bank(bank, number, made, r);
     registers::put_registers(processor, number, r0, r1);
     window::put_word(window, window_base, r, word);
     o.answer

@@ -1,19 +1,16 @@
 -- One turn of each loop. Assumes nothing.
 use mathlib.Core.Path.{_≡_}
-use mathlib.Core.Bool.{false}
 use mathlib.Core.List.{List}
 use Prim.Native.Nat.{ℕ, _+_, _≤_, _<_}
 use native.Mathlib.Numerals.{add-one}
 use lib.Dec.{ltb}
 use lib.ListN.{length, getD, drop, drop-of-length-le}
 use lib.Seq.{drop-cons}
-use Rattle.laws.specs.Logic.{_or_}
 use Rattle.types.specs.declared.thread.TickOption.{TickOption}
 use Rattle.types.specs.declared.thread.Thread.{Thread}
 use Rattle.types.specs.declared.object.Slot.{Slot}
-use Rattle.types.specs.Thread.{isBlocked}
 use Rattle.sound.specs.View.{noThread, noSlot}
-use Rattle.kernel.specs.NextEvent.{wakeAfter, nextWake, anyBlocked, dueAfter}
+use Rattle.kernel.specs.NextEvent.{wakeAfter, nextWake, dueAfter}
 use Rattle.kernel.specs.Marks.{dueMarked}
 
 pub wake-step : (ts : List Thread) (i : ℕ) (best : TickOption) → i < length ts
@@ -24,14 +21,6 @@ wake-step ts i best h = rw (drop-cons ts i noThread h, add-one)
 pub wake-end : (ts : List Thread) (i : ℕ) (best : TickOption) → length ts ≤ i → nextWake best (drop i ts) ≡ best
 unfolding nextWake
 wake-end ts i best h = rw (drop-of-length-le ts h)
-
-pub blocked-step : (ts : List Thread) (i : ℕ) → i < length ts → anyBlocked (drop i ts) ≡ isBlocked (getD ts i noThread .status) or anyBlocked (drop (i + 1) ts)
-unfolding anyBlocked
-blocked-step ts i h = rw (drop-cons ts i noThread h, add-one)
-
-pub blocked-end : (ts : List Thread) (i : ℕ) → length ts ≤ i → anyBlocked (drop i ts) ≡ false
-unfolding anyBlocked
-blocked-end ts i h = rw (drop-of-length-le ts h)
 
 pub due-step : (m : List ℕ) (l : List Slot) (i : ℕ) (best : TickOption) → i < length l
     → dueMarked m best (i + 1) (drop i l) ≡ dueMarked m (dueAfter (ltb 0 (getD m (i + 1) 0)) best (getD l i noSlot)) (i + 1 + 1) (drop (i + 1) l)

@@ -1,20 +1,15 @@
 // The earliest tick that a blocked thread or a timer wants the scheduler at.
-use types::kernel::Kernel;
 use types::object::KObject;
-use types::object::ObjectStore;
-use types::object::Slot;
 use types::thread::Thread;
 use types::thread::TickOption;
-use units::ObjectId;
 use units::Ticks;
 ghost use mathlib.Core.Path.{_≡_};
-ghost use Prim.Native.Nat.{_+_, _-_, _<_, _≤_};
+ghost use Prim.Native.Nat.{_-_, _<_, _≤_};
 ghost use lib.ListN.{length};
-ghost use Rattle.laws.specs.All.{All};
-ghost use Rattle.laws.specs.Tally.{tally, tallyAll};
+ghost use Rattle.laws.specs.Tally.{tally};
 ghost use Rattle.types.specs.Thread.{isBlocked};
-ghost use Rattle.kernel.specs.NextEvent.{earlier, wakeAfter, nextWake, anyBlocked, dueOf, dueAfter, nextEvent};
-ghost use Rattle.kernel.specs.Marks.{listIf, listsIf, dueMarked, option};
+ghost use Rattle.kernel.specs.NextEvent.{earlier, wakeAfter, dueOf};
+ghost use Rattle.kernel.specs.Marks.{listIf, option};
 
 // The earliest tick so far, if found is not 0. Words and no enum, since an enum that goes round a loop is copied part by part at each turn.
 pub struct Earliest {
@@ -34,7 +29,7 @@ fn earlier_of(best: Earliest, at: u64) -> Earliest
     best
 }
 
-fn earlier_option(best: Earliest, at: TickOption) -> Earliest
+pub fn earlier_option(best: Earliest, at: TickOption) -> Earliest
     ensures { λ r. ⌜ option r ≡ earlier (option best) at ⌝ }
 {
     match at {
@@ -43,25 +38,13 @@ fn earlier_option(best: Earliest, at: TickOption) -> Earliest
     }
 }
 
-fn wake_after(best: Earliest, t: Thread) -> Earliest
+pub fn wake_after(best: Earliest, t: Thread) -> Earliest
     ensures { λ r. ⌜ option r ≡ wakeAfter (option best) t ⌝ }
 {
     let s = t.status;
     let at = t.wakeup_at;
     if types::thread::is_blocked(s) {
         return earlier_option(best, at);
-    }
-    best
-}
-
-fn next_wake(ts: [Thread; 32]) -> Earliest
-    ensures { λ r. ⌜ option r ≡ nextWake TickOption.NoTick ts ⌝ }
-{
-    let mut best = Earliest { found: 0, tick: 0 };
-    let mut i: usize = 0;
-    while i < 32 {
-        best = wake_after(best, ts[i]);
-        i += 1;
     }
     best
 }
@@ -73,21 +56,8 @@ fn blocked(t: Thread) -> bool
     types::thread::is_blocked(s)
 }
 
-fn any_blocked(ts: [Thread; 32]) -> bool
-    ensures { λ r. ⌜ r ≡ anyBlocked ts ⌝ }
-{
-    let mut i: usize = 0;
-    while i < 32 {
-        if blocked(ts[i]) {
-            return true;
-        }
-        i += 1;
-    }
-    false
-}
-
 // One more for each object that the thread waits on, if it is blocked.
-fn mark_list(m: &mut [u32; 129], t: Thread)
+pub fn mark_list(m: &mut [u32; 129], t: Thread)
     ensures { λ _. ⌜ now (m .exit) ≡ tally 129 (now (m .entry)) (listIf t) ⌝ }
     ensures { λ _. ⌜ length (listIf t) ≤ 8 ⌝ }
 {
@@ -96,18 +66,6 @@ fn mark_list(m: &mut [u32; 129], t: Thread)
     }
     let l = t.wait_objects;
     tally::tally_list(m, l);
-}
-
-fn mark_lists(m: &mut [u32; 129], ts: [Thread; 32])
-    ensures { λ _. ⌜ now (m .exit) ≡ tallyAll 129 (now (m .entry)) (listsIf ts) ⌝ }
-    ensures { λ _. ⌜ length ts ≡ 32 ⌝ }
-    ensures { λ _. ⌜ All (λ t. length (listIf t) ≤ 8) ts ⌝ }
-{
-    let mut i: usize = 0;
-    while i < 32 {
-        mark_list(m, ts[i]);
-        i += 1;
-    }
 }
 
 pub fn due_of(o: KObject) -> TickOption
@@ -126,50 +84,11 @@ pub fn due_of(o: KObject) -> TickOption
     }
 }
 
-fn due_after(waited: bool, best: Earliest, s: Slot) -> Earliest
-    ensures { λ r. ⌜ option r ≡ dueAfter waited (option best) s ⌝ }
-{
-    if !waited {
-        return best;
-    }
-    let o = s.object;
-    earlier_option(best, due_of(o))
-}
-
-// The timers that m marks.
-fn next_due(first: Earliest, m: [u32; 129], l: [Slot; 128]) -> Earliest
-    ensures { λ r. ⌜ option r ≡ dueMarked m (option first) 1 l ⌝ }
-    ensures { λ _. ⌜ length l ≡ 128 ⌝ }
-{
-    let mut best = first;
-    let mut i: usize = 0;
-    while i < 128 {
-        best = due_after(0 < m[i + 1], best, l[i]);
-        i += 1;
-    }
-    best
-}
-
-fn option_of(e: Earliest) -> TickOption
+pub fn option_of(e: Earliest) -> TickOption
     ensures { λ r. ⌜ r ≡ option e ⌝ }
 {
     if e.found == 0 {
         return TickOption::NoTick;
     }
     TickOption::SomeTick(Ticks(e.tick))
-}
-
-pub fn next_event(k: Kernel) -> TickOption
-    ensures { λ r. ⌜ r ≡ nextEvent k ⌝ }
-{
-    let ts = k.threads;
-    if !any_blocked(ts) {
-        return TickOption::NoTick;
-    }
-    let mut m = [0u32; 129];
-    mark_lists(&mut m, ts);
-    let best = next_wake(ts);
-    let o = k.objects;
-    let l = o.slots;
-    option_of(next_due(best, m, l))
 }

@@ -1,4 +1,5 @@
 // The operation that tells the next tick at which a pass is wanted.
+use asked::event;
 use codec::Two;
 use lent::questions;
 use types::thread::TickOption;
@@ -28,14 +29,12 @@ pub fn operate(block: &[u8], answer: &mut [u8]) -> u32
     if answer.len() != 16 {
         return 1;
     }
-    let k = block::decode(block);
     if !questions::block_ok(block) {
         return 2;
     }
-    let h = k.handles;
-    if questions::out_of_handles(h.next) {
+    if outcome::out_of_handles(block) {
         return 8;
     }
-    put_tick(answer, kernel::next_event::next_event(k));
+    put_tick(answer, event::next_event(block));
     0
 }

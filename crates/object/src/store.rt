@@ -62,7 +62,7 @@ fn one_more(x: u32) -> u32
 }
 
 // One holder more; a dead slot is not counted.
-fn held(x: Slot) -> Slot
+pub fn held(x: Slot) -> Slot
     ensures { λ r. ⌜ r ≡ one.held x ⌝ }
 {
     let object = x.object;

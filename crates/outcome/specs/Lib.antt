@@ -1,2 +1,3 @@
 -- What a call leaves beside the state, and in the block.
 pub mod Outcome
+pub mod Findings

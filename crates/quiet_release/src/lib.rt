@@ -1,4 +1,6 @@
 // The operation that tells what letting go of a mutex would do without a pass.
+pub mod quiet;
+
 use codec::Two;
 use lent::questions;
 use pass::Release;
@@ -59,14 +61,12 @@ pub fn operate(block: &[u8], answer: &mut [u8], handle: u32, tick: u64) -> u32
     if answer.len() != 12 {
         return 1;
     }
-    let k = block::decode(block);
     if !questions::block_ok(block) {
         return 2;
     }
-    let h = k.handles;
-    if questions::out_of_handles(h.next) {
+    if outcome::out_of_handles(block) {
         return 8;
     }
-    put_release(answer, scheduler::quiet::quiet_release(k, handle, tick));
+    put_release(answer, quiet::quiet_release(block, handle, tick));
     0
 }

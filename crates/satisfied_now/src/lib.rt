@@ -1,4 +1,6 @@
 // The operation that tells what a wait on a list of handles would find at once.
+pub mod now;
+
 use codec::Two;
 use lent::questions;
 use pass::IndexOption;
@@ -52,18 +54,16 @@ pub fn operate(block: &[u8], handles: &[u8], answer: &mut [u8], wait_all: u32, t
     if answer.len() != 40 {
         return 1;
     }
-    let k = block::decode(block);
     if !questions::block_ok(block) {
         return 2;
     }
-    let h = k.handles;
-    if questions::out_of_handles(h.next) {
+    if outcome::out_of_handles(block) {
         return 8;
     }
     let all = wait_all != 0;
     put_satisfied(
         answer,
-        wait::now::satisfied_now(k, handles, handles.len() / 4, all, tick),
+        now::satisfied_now(block, handles, handles.len() / 4, all, tick),
     );
     0
 }

@@ -1,5 +1,4 @@
--- The switch and a quiet release as they are computed.
+-- The switch as it is computed.
 pub mod Switch
 pub mod Turn
 pub mod Place
-pub mod Alone

@@ -1,4 +1,3 @@
 // The pass (`schedule`).
 pub mod choose;
-pub mod quiet;
 pub mod run;

@@ -35,7 +35,7 @@ at-same : (s : Slot) (t : ti.Timer) (at : TickOption) (tick : ℕ) → dueBy at 
 at-same s t NoTick tick e = refl
 at-same s t (SomeTick at) tick e = rw e
 
-fired-same : (s : Slot) (x : KObject) (tick : ℕ) → dueBy (dueOf x) tick ≡ false → firedAs s x tick ≡ s
+pub fired-same : (s : Slot) (x : KObject) (tick : ℕ) → dueBy (dueOf x) tick ≡ false → firedAs s x tick ≡ s
 fired-same s (Free n) tick e = refl
 fired-same s (kind.Thread u) tick e = refl
 fired-same s (Event v) tick e = refl
@@ -51,7 +51,7 @@ unfolding _and_
 at-fits NoTick interval tick e = refl
 at-fits (SomeTick at) interval tick e = rw e
 
-over-none : (x : KObject) (tick : ℕ) → dueBy (dueOf x) tick ≡ false → overOf x tick ≡ false
+pub over-none : (x : KObject) (tick : ℕ) → dueBy (dueOf x) tick ≡ false → overOf x tick ≡ false
 over-none (Free n) tick e = refl
 over-none (kind.Thread u) tick e = refl
 over-none (Event v) tick e = refl

@@ -31,7 +31,7 @@ pub fn lost_object(x: KObject) -> KObject
     }
 }
 
-fn lost_slot(waited: bool, s: Slot) -> Slot
+pub fn lost_slot(waited: bool, s: Slot) -> Slot
     ensures { λ r. ⌜ r ≡ def.lostSlot waited s ⌝ }
 {
     if !s.pulsed {
@@ -50,7 +50,7 @@ fn lost_slot(waited: bool, s: Slot) -> Slot
 }
 
 // One more for each object that the thread waits on.
-fn mark_list(m: &mut [u32; 129], t: Thread)
+pub fn mark_list(m: &mut [u32; 129], t: Thread)
     ensures { λ _. ⌜ now (m .exit) ≡ tally 129 (now (m .entry)) (syncList t) ⌝ }
     ensures { λ _. ⌜ length (syncList t) ≤ 8 ⌝ }
 {

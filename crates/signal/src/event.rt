@@ -1,9 +1,6 @@
 // Events (`signal_event`, `clear_event`).
 use crate::pulse;
-use object::slots;
-use object::store;
 use types::object::KObject;
-use types::object::ObjectStore;
 use types::object::Slot;
 use types::sync::Event;
 use types::sync::ResetType;
@@ -56,19 +53,6 @@ pub fn waits_on(t: Thread, o: u32) -> bool
     contains_id(l, o)
 }
 
-pub fn waited_sync(ts: [Thread; 32], o: u32) -> bool
-    ensures { λ r. ⌜ r ≡ def.waitedSync ts o ⌝ }
-{
-    let mut i: usize = 0;
-    while i < 32 {
-        if waits_on(ts[i], o) {
-            return true;
-        }
-        i += 1;
-    }
-    false
-}
-
 pub fn is_pulse(r: ResetType) -> bool
     ensures { λ v. ⌜ v ≡ def.isPulse r ⌝ }
 {
@@ -107,7 +91,7 @@ fn signaled_event(waited: bool, s: Slot, e: Event) -> Slot
     }
 }
 
-fn signaled_slot(waited: bool, s: Slot, x: KObject) -> Slot
+pub fn signaled_slot(waited: bool, s: Slot, x: KObject) -> Slot
     ensures { λ r. ⌜ r ≡ def.signaledSlot waited s x ⌝ }
 {
     match x {
@@ -123,17 +107,7 @@ fn signaled_slot(waited: bool, s: Slot, x: KObject) -> Slot
     }
 }
 
-// A pulse that nothing waits on is lost.
-pub fn signal_event(s: ObjectStore, ts: [Thread; 32], o: ObjectId) -> ObjectStore
-    ensures { λ r. ⌜ r ≡ def.signalEvent s ts (o .0) ⌝ }
-{
-    let waited = waited_sync(ts, o.0);
-    let old = slots::slot_at(s, o);
-    let x = old.object;
-    slots::put_slot(s, o, signaled_slot(waited, old, x))
-}
-
-fn cleared_event(x: KObject) -> KObject
+pub fn cleared_event(x: KObject) -> KObject
     ensures { λ r. ⌜ r ≡ def.clearedEvent x ⌝ }
 {
     match x {
@@ -147,13 +121,4 @@ fn cleared_event(x: KObject) -> KObject
         KObject::Process => KObject::Process,
         KObject::ResourceLimit => KObject::ResourceLimit,
     }
-}
-
-pub fn clear_event(s: ObjectStore, o: ObjectId) -> ObjectStore
-    ensures { λ r. ⌜ r ≡ def.clearEvent s (o .0) ⌝ }
-{
-    let old = slots::slot_at(s, o);
-    let x = old.object;
-    let y = cleared_event(x);
-    store::content(s, o, y)
 }

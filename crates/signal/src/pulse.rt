@@ -61,18 +61,3 @@ pub fn unpulsed_slot(s: Slot) -> Slot
         pulsed: false,
     }
 }
-
-// Whether any pulse waits for a pass, on a dead slot too.
-pub fn any_pulsed(l: [Slot; 128]) -> bool
-    ensures { λ r. ⌜ r ≡ def.anyPulsed l ⌝ }
-{
-    let mut i: usize = 0;
-    while i < 128 {
-        let s = l[i];
-        if s.pulsed {
-            return true;
-        }
-        i += 1;
-    }
-    false
-}

@@ -167,7 +167,7 @@ fn over_of(x: KObject, tick: u64) -> bool
     }
 }
 
-fn slot_over(s: Slot, tick: u64) -> bool
+pub fn slot_over(s: Slot, tick: u64) -> bool
     ensures { λ r. ⌜ r ≡ def.overOf (s .object) tick ⌝ }
 {
     let x = s.object;

@@ -1,9 +1,10 @@
 // Questions 3 to 6, which are a call's own.
+use rows::read;
 use svc::Registers;
-use types::kernel::Kernel;
-use types::thread::Thread;
 use types::thread::ThreadOption;
 ghost use mathlib.Core.Path.{_≡_};
+ghost use lib.ListN.{length};
+ghost use Rattle.block.specs.Block.{decBlock};
 ghost use Rattle.sound.specs.View.{threadAt};
 ghost use Rattle.pass.specs.Pick.{isRunning};
 ghost use Rattle.svc.specs.Dispatch as def;
@@ -27,33 +28,35 @@ pub fn words_read(number: u32, r: Registers) -> u32
     1
 }
 
-fn is_running_at(ts: [Thread; 32], c: u32) -> bool
-    ensures { λ b. ⌜ b ≡ isRunning (threadAt ts c .status) ⌝ }
+fn is_running_at(block: &[u8], c: u32) -> bool
+    requires { ⌜ length (now block) ≡ 16384 ⌝ }
+    ensures { λ b. ⌜ b ≡ isRunning (threadAt (decBlock (now (block .entry)) .threads) c .status) ⌝ }
 {
     if 32 <= c {
         return false;
     }
-    let t = ts[c as usize];
+    let t = read::thread_at(block, c);
     let s = t.status;
     pick::is_running(s)
 }
 
-fn runs_as(current: ThreadOption, ts: [Thread; 32]) -> bool
-    ensures { λ b. ⌜ b ≡ def.runsAs current ts ⌝ }
+fn runs_as(current: ThreadOption, block: &[u8]) -> bool
+    requires { ⌜ length (now block) ≡ 16384 ⌝ }
+    ensures { λ b. ⌜ b ≡ def.runsAs current (decBlock (now (block .entry)) .threads) ⌝ }
 {
     match current {
         ThreadOption::NoThread => false,
-        ThreadOption::SomeThread(c) => is_running_at(ts, c),
+        ThreadOption::SomeThread(c) => is_running_at(block, c),
     }
 }
 
 // Question 4: there is a current thread, Running.
-pub fn runs(k: Kernel) -> bool
-    ensures { λ b. ⌜ b ≡ def.runs? k ⌝ }
+pub fn runs(block: &[u8]) -> bool
+    requires { ⌜ length (now block) ≡ 16384 ⌝ }
+    ensures { λ b. ⌜ b ≡ def.runs? (decBlock (now (block .entry))) ⌝ }
 {
-    let current = k.current_thread;
-    let ts = k.threads;
-    runs_as(current, ts)
+    let current = read::current(block);
+    runs_as(current, block)
 }
 
 // Question 5: at most 8 handles.
@@ -97,13 +100,14 @@ fn outside(base: u32, len: u64, number: u32, r: Registers) -> bool
 }
 
 // The first of questions 3 to 6 that refuses, or 0.
-pub fn refusal(base: u32, len: u64, number: u32, r: Registers, k: Kernel) -> u32
-    ensures { λ n. ⌜ n ≡ def.refusal base len number r k ⌝ }
+pub fn refusal(base: u32, len: u64, number: u32, r: Registers, block: &[u8]) -> u32
+    requires { ⌜ length (now block) ≡ 16384 ⌝ }
+    ensures { λ n. ⌜ n ≡ def.refusal base len number r (decBlock (now (block .entry))) ⌝ }
 {
     if !crate::known(number) {
         return 3;
     }
-    if !runs(k) {
+    if !runs(block) {
         return 4;
     }
     if too_many(number, r) {

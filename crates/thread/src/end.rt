@@ -1,7 +1,5 @@
 // The end of a thread, and with it of its wait (`end_thread`, `end_wait`). A number past the places names no thread.
 use crate::thread;
-use object::store;
-use types::kernel::Kernel;
 use types::object::KObject;
 use types::object::ObjectStore;
 use types::object::Slot;
@@ -13,24 +11,9 @@ use types::thread::WaitResult;
 use types::thread::WaitSyscall;
 ghost use mathlib.Core.Path.{_≡_};
 ghost use Prim.Native.Nat.{_+_, _-_, _<_};
-ghost use lib.ListN.{set};
-ghost use Rattle.sound.specs.View.{threadAt};
 ghost use Rattle.object.specs.Slots.{withObject};
 ghost use Rattle.thread.specs.Thread.{clearWait};
 ghost use Rattle.thread.specs.Threads as def;
-
-// The objects of the thread's list are let go, in list order.
-fn release_waits(s: ObjectStore, ts: [Thread; 32], t: u32) -> ObjectStore
-    ensures { λ r. ⌜ r ≡ def.releaseWaits s ts t ⌝ }
-{
-    if 32 <= t {
-        return s;
-    }
-    let i = t as usize;
-    let old = ts[i];
-    let list = old.wait_objects;
-    store::release_list(s, list, old.wait_count)
-}
 
 fn disowned_mutex(t: u32, m: Mutex) -> Mutex
     ensures { λ r. ⌜ r ≡ def.disownedMutex t m ⌝ }
@@ -74,7 +57,7 @@ fn disowned_slot(t: u32, s: Slot) -> Slot
 }
 
 // Every mutex that the thread owns is given back, all the way down.
-fn disown(s: ObjectStore, t: u32) -> ObjectStore
+pub fn disown(s: ObjectStore, t: u32) -> ObjectStore
     ensures { λ r. ⌜ r ≡ def.disown s t ⌝ }
 {
     let mut q = s;
@@ -86,7 +69,7 @@ fn disown(s: ObjectStore, t: u32) -> ObjectStore
     q
 }
 
-fn left_by(w: ThreadOption, t: u32) -> ThreadOption
+pub fn left_by(w: ThreadOption, t: u32) -> ThreadOption
     ensures { λ r. ⌜ r ≡ def.leftBy w t ⌝ }
 {
     if sound::is_current(w, t) {
@@ -96,7 +79,7 @@ fn left_by(w: ThreadOption, t: u32) -> ThreadOption
 }
 
 // A thread that waits for nothing and is Dead.
-fn ended(t: Thread) -> Thread
+pub fn ended(t: Thread) -> Thread
     ensures { λ r. ⌜ r ≡ def.ended (clearWait t) ⌝ }
 {
     thread::with_result(
@@ -104,43 +87,4 @@ fn ended(t: Thread) -> Thread
         WaitResult::NoResult,
         WaitSyscall::NoSyscall,
     )
-}
-
-fn put_ended(ts: [Thread; 32], t: u32) -> [Thread; 32]
-    ensures { λ r. ⌜ r ≡ set ts t (def.ended (clearWait (threadAt ts t))) ⌝ }
-{
-    if 32 <= t {
-        return ts;
-    }
-    let i = t as usize;
-    let mut l = ts;
-    l[i] = ended(l[i]);
-    l
-}
-
-// The end of the wait and of the thread at once, so that the state is copied once.
-pub fn end_thread(k: Kernel, t: u32) -> Kernel
-    ensures { λ r. ⌜ r ≡ def.endThread k t ⌝ }
-{
-    let ts = k.threads;
-    let before = k.objects;
-    let objects = disown(release_waits(before, ts, t), t);
-    let threads = put_ended(ts, t);
-    let handles = k.handles;
-    let was = k.current_thread;
-    let current = left_by(was, t);
-    Kernel {
-        status_word: k.status_word,
-        objects: objects,
-        handles: handles,
-        threads: threads,
-        thread_count: k.thread_count,
-        current_thread: current,
-        next_tls_slot: k.next_tls_slot,
-        next_guest_id: k.next_guest_id,
-        all_blocked: k.all_blocked,
-        relief: k.relief,
-        full: k.full,
-        overflow: k.overflow,
-    }
 }

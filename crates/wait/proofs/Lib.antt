@@ -1,3 +1,2 @@
 -- The laws that the proofs of `wait` cite.
 pub mod Steps
-pub mod Open

@@ -1,3 +1,2 @@
-// Waits: what satisfies one, and whether one on handles would be satisfied now.
-pub mod now;
+// Waits: what satisfies one.
 pub mod satisfy;

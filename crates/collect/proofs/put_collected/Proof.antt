@@ -8,44 +8,49 @@ use Rattle.block.proofs.Sizes.{length-two}
 use borrow.Author.Needs.{needs}
 use Rattle.collect.proofs.put_collected.Statement.{statement}
 use Rattle.collect.proofs.put_collected.Tie as tie
+use Rattle.collect.proofs.put_collected.Reads as reads
+use Rattle.collect.proofs.put_collected.Lts as lts
+use Rattle.codec.proofs.put32.Reads as put32-reads
+use Rattle.codec.proofs.put_two.Reads as put-two-reads
+use Rattle.types.proofs.thread.result_index.Reads as result-index-reads
+use Rattle.types.proofs.thread.result_number.Reads as result-number-reads
+use Rattle.types.proofs.thread.syscall_number.Reads as syscall-number-reads
 
-collected-result-requires : tie.Need-collected-result-requires
-collected-result-requires c κs = search needs
-
-collected-syscall-requires : tie.Need-collected-syscall-requires
-collected-syscall-requires c κs = search needs
-
+-- src/lib.rt:21:9
 result-number-requires : tie.Need-result-number-requires
 result-number-requires c κs = search needs
 
+-- src/lib.rt:22:9
 result-index-requires : tie.Need-result-index-requires
 result-index-requires c κs = search needs
 
+-- src/lib.rt:23:9
 syscall-number-requires : tie.Need-syscall-number-requires
 syscall-number-requires c κs = search needs
 
+-- src/lib.rt:24:5
 put-two-requires : tie.Need-put-two-requires
 put-two-requires c κs = search needs
 
+-- src/lib.rt:25:5
 put32-requires : tie.Need-put32-requires
 put32-requires c κs = search needs
 
+-- src/lib.rt:17:1
 same-length : tie.Need-same-length
 same-length c = search needs
 
+-- src/lib.rt:17:1
 returns : tie.Need-returns
-returns c =
-    let kind = c .before .before .before .before .before .before .before .before .syscall-number .result in
+returns c = let kind = c .before .before .before .before .before .before .before .before .syscall-number .result in
     let v : Two = record { 0 = c .before .before .before .before .before .before .before .before .before .before .result-number .result; 1 = c .before .before .before .before .before .before .before .before .before .result-index .result } in
-    let r = next (twoBytes v) 8 (start (c .before .before .before .before .before .before .before .before .before .before .before .before .before .before .pre)) (length-two v) refl (c .before .before .before .before .before .before .put-two .ensures) in
-    whole (next (bytes 4 kind) 4 r (length-bytes 4 kind) refl (c .before .before .put32 .ensures)) ∙ rw (c .before .before .before .before .before .before .before .before .before .before .result-number .ensures, c .before .before .before .before .before .before .before .before .before .result-index .ensures, c .before .before .before .before .before .before .before .before .syscall-number .ensures, c .before .before .before .before .before .before .before .before .before .before .before .before .collected-result .ensures, c .before .before .before .before .before .before .before .before .before .before .before .collected-syscall .ensures)
+    let r = next (twoBytes v) 8 (start (c .before .before .before .before .before .before .before .before .before .before .before .before .pre)) (length-two v) refl (c .before .before .before .before .before .before .put-two .ensures) in
+    whole (next (bytes 4 kind) 4 r (length-bytes 4 kind) refl (c .before .before .put32 .ensures)) ∙ rw (c .before .before .before .before .before .before .before .before .before .before .result-number .ensures, c .before .before .before .before .before .before .before .before .before .result-index .ensures, c .before .before .before .before .before .before .before .before .syscall-number .ensures)
 
 pub put-collected-spec : {M : Type 1} → statement M
 put-collected-spec =
     tie.close
     (tie.spec
-    collected-result-requires
-    collected-syscall-requires
     result-number-requires
     result-index-requires
     syscall-number-requires

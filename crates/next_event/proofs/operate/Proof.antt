@@ -1,4 +1,4 @@
-use mathlib.Core.Path.{_∙_}
+use mathlib.Core.Path.{refl, _∙_}
 use borrow.Author.Tests.{eq-eqb, ne-eqb, not-true, not-false}
 use mathlib.Core.List.{[]}
 use Rattle.laws.specs.Logic.{and-no, and-yes, true-and}
@@ -12,11 +12,8 @@ use Rattle.next_event.proofs.operate.Statement.{statement}
 use Rattle.next_event.proofs.operate.Tie as tie
 use Rattle.next_event.proofs.operate.Reads as reads
 use Rattle.next_event.proofs.operate.Lts as lts
-use Rattle.block.proofs.decode.Reads as decode-reads
 use Rattle.lent.proofs.questions.block_ok.Reads as block-ok-reads
-use Rattle.lent.proofs.questions.out_of_handles.Reads as out-of-handles-reads
 use Rattle.next_event.proofs.put_tick.Reads as put-tick-reads
-use Rattle.kernel.proofs.next_event.next_event.Reads as next-event-reads
 
 returns : tie.Need-returns
 unfolding operation.nextEvent
@@ -30,9 +27,6 @@ returns-2 c =
     let a = c .before .before .before .before .args in
     inspect-1 _ (λ k. tickBytes (nextEvent k)) (lent (a .block .now) [] [] [] (a .answer .now)) (and-yes _ _ (eq-eqb _ 16384 (c .before .if1 .left)) ∙ ne-eqb _ 16 (c .if2 .taken))
 
-decode-requires : tie.Need-decode-requires
-decode-requires c κs = search needs
-
 block-ok-requires : tie.Need-block-ok-requires
 block-ok-requires c κs = search needs
 
@@ -40,26 +34,24 @@ returns-3 : tie.Need-returns-3
 unfolding operation.nextEvent
 returns-3 c =
     let o = c .before in
-    let d = o .before in
-    let q = d .before in
+    let q = o .before in
     let a = q .before .before .before .before .args in
     inspect-2 _ (λ k. tickBytes (nextEvent k)) (lent (a .block .now) [] [] [] (a .answer .now)) (true-and _ _ (eq-eqb _ 16384 (q .before .if1 .left)) (eq-eqb _ 16 (q .if2 .left)))
-    _ (d .decode .ensures) _ (o .block-ok .ensures) (not-true _ (c .if3 .taken))
+    _ refl _ (o .block-ok .ensures) (not-true _ (c .if3 .taken))
 
 out-of-handles-requires : tie.Need-out-of-handles-requires
 out-of-handles-requires c κs = search needs
 
 returns-4 : tie.Need-returns-4
-unfolding operation.nextEvent operation.outOfHandles?
+unfolding operation.nextEvent
 returns-4 c =
     let h = c .before in
-    let p = h .before .before in
+    let p = h .before in
     let o = p .before in
-    let d = o .before in
-    let q = d .before in
+    let q = o .before in
     let a = q .before .before .before .before .args in
     inspect-8 _ (λ k. tickBytes (nextEvent k)) (lent (a .block .now) [] [] [] (a .answer .now)) (true-and _ _ (eq-eqb _ 16384 (q .before .if1 .left)) (eq-eqb _ 16 (q .if2 .left)))
-    _ (d .decode .ensures) _ (o .block-ok .ensures) (not-false _ (p .if3 .left)) _ (h .out-of-handles .ensures) (c .if4 .taken)
+    _ refl _ (o .block-ok .ensures) (not-false _ (p .if3 .left)) _ (h .out-of-handles .ensures) (c .if4 .taken)
 
 next-event-requires : tie.Need-next-event-requires
 next-event-requires c κs = search needs
@@ -71,20 +63,19 @@ same-length : tie.Need-same-length
 same-length c = search needs
 
 returns-5 : tie.Need-returns-5
-unfolding operation.nextEvent operation.outOfHandles?
+unfolding operation.nextEvent
 returns-5 c =
     let t = c .before .before in
     let n = t .before in
     let i = n .before .before in
     let h = i .before in
-    let p = h .before .before in
+    let p = h .before in
     let o = p .before in
-    let d = o .before in
-    let q = d .before in
+    let q = o .before in
     let a = q .before .before .before .before .args in
     rw (t .put-tick .ensures, n .next-event .ensures)
     (inspect-0 _ (λ k. tickBytes (nextEvent k)) (lent (a .block .now) [] [] [] (a .answer .now)) (true-and _ _ (eq-eqb _ 16384 (q .before .if1 .left)) (eq-eqb _ 16 (q .if2 .left)))
-    _ (d .decode .ensures) _ (o .block-ok .ensures) (not-false _ (p .if3 .left)) _ (h .out-of-handles .ensures) (i .if4 .left))
+    _ refl _ (o .block-ok .ensures) (not-false _ (p .if3 .left)) _ (h .out-of-handles .ensures) (i .if4 .left))
 
 pub operate-spec : {M : Type 1} → statement M
 operate-spec =
@@ -92,7 +83,6 @@ operate-spec =
     (tie.spec
     returns
     returns-2
-    decode-requires
     block-ok-requires
     returns-3
     out-of-handles-requires

@@ -1,4 +1,4 @@
-use mathlib.Core.Path.{_∙_}
+use mathlib.Core.Path.{refl, _∙_}
 use borrow.Author.Tests.{eq-eqb, ne-eqb, not-true, not-false}
 use mathlib.Core.List.{[]}
 use Rattle.laws.specs.Logic.{and-no, and-yes, true-and}
@@ -12,11 +12,8 @@ use Rattle.quiet_release.proofs.operate.Statement.{statement}
 use Rattle.quiet_release.proofs.operate.Tie as tie
 use Rattle.quiet_release.proofs.operate.Reads as reads
 use Rattle.quiet_release.proofs.operate.Lts as lts
-use Rattle.block.proofs.decode.Reads as decode-reads
 use Rattle.lent.proofs.questions.block_ok.Reads as block-ok-reads
-use Rattle.lent.proofs.questions.out_of_handles.Reads as out-of-handles-reads
 use Rattle.quiet_release.proofs.put_release.Reads as put-release-reads
-use Rattle.scheduler.proofs.quiet.quiet_release.Reads as quiet-release-reads
 
 returns : tie.Need-returns
 unfolding operation.quietRelease
@@ -30,9 +27,6 @@ returns-2 c =
     let a = c .before .before .before .before .args in
     inspect-1 _ (λ k. releaseBytes (quietRelease k (a .handle) (a .tick))) (lent (a .block .now) [] [] [] (a .answer .now)) (and-yes _ _ (eq-eqb _ 16384 (c .before .if1 .left)) ∙ ne-eqb _ 12 (c .if2 .taken))
 
-decode-requires : tie.Need-decode-requires
-decode-requires c κs = search needs
-
 block-ok-requires : tie.Need-block-ok-requires
 block-ok-requires c κs = search needs
 
@@ -40,24 +34,22 @@ returns-3 : tie.Need-returns-3
 unfolding operation.quietRelease
 returns-3 c =
     let o = c .before in
-    let d = o .before in
-    let q = d .before in
-    let a = c .before .before .before .before .before .before .before .args in
-    inspect-2 _ (λ k. releaseBytes (quietRelease k (a .handle) (a .tick))) (lent (a .block .now) [] [] [] (a .answer .now)) (true-and _ _ (eq-eqb _ 16384 (q .before .if1 .left)) (eq-eqb _ 12 (q .if2 .left))) _ (d .decode .ensures) _ (o .block-ok .ensures) (not-true _ (c .if3 .taken))
+    let q = o .before in
+    let a = q .before .before .before .before .args in
+    inspect-2 _ (λ k. releaseBytes (quietRelease k (a .handle) (a .tick))) (lent (a .block .now) [] [] [] (a .answer .now)) (true-and _ _ (eq-eqb _ 16384 (q .before .if1 .left)) (eq-eqb _ 12 (q .if2 .left))) _ refl _ (o .block-ok .ensures) (not-true _ (c .if3 .taken))
 
 out-of-handles-requires : tie.Need-out-of-handles-requires
 out-of-handles-requires c κs = search needs
 
 returns-4 : tie.Need-returns-4
-unfolding operation.quietRelease operation.outOfHandles?
+unfolding operation.quietRelease
 returns-4 c =
     let h = c .before in
-    let p = h .before .before in
+    let p = h .before in
     let o = p .before in
-    let d = o .before in
-    let q = d .before in
-    let a = c .before .before .before .before .before .before .before .before .before .before .args in
-    inspect-8 _ (λ k. releaseBytes (quietRelease k (a .handle) (a .tick))) (lent (a .block .now) [] [] [] (a .answer .now)) (true-and _ _ (eq-eqb _ 16384 (q .before .if1 .left)) (eq-eqb _ 12 (q .if2 .left))) _ (d .decode .ensures) _ (o .block-ok .ensures) (not-false _ (p .if3 .left)) _ (h .out-of-handles .ensures) (c .if4 .taken)
+    let q = o .before in
+    let a = q .before .before .before .before .args in
+    inspect-8 _ (λ k. releaseBytes (quietRelease k (a .handle) (a .tick))) (lent (a .block .now) [] [] [] (a .answer .now)) (true-and _ _ (eq-eqb _ 16384 (q .before .if1 .left)) (eq-eqb _ 12 (q .if2 .left))) _ refl _ (o .block-ok .ensures) (not-false _ (p .if3 .left)) _ (h .out-of-handles .ensures) (c .if4 .taken)
 
 quiet-release-requires : tie.Need-quiet-release-requires
 quiet-release-requires c κs = search needs
@@ -69,19 +61,18 @@ same-length : tie.Need-same-length
 same-length c = search needs
 
 returns-5 : tie.Need-returns-5
-unfolding operation.quietRelease operation.outOfHandles?
+unfolding operation.quietRelease
 returns-5 c =
     let t = c .before .before in
     let n = t .before in
     let i = n .before .before in
     let h = i .before in
-    let p = h .before .before in
+    let p = h .before in
     let o = p .before in
-    let d = o .before in
-    let q = d .before in
-    let a = c .before .before .before .before .before .before .before .before .before .before .before .before .before .before .before .args in
+    let q = o .before in
+    let a = q .before .before .before .before .args in
     rw (t .put-release .ensures, n .quiet-release .ensures)
-    (inspect-0 _ (λ k. releaseBytes (quietRelease k (a .handle) (a .tick))) (lent (a .block .now) [] [] [] (a .answer .now)) (true-and _ _ (eq-eqb _ 16384 (q .before .if1 .left)) (eq-eqb _ 12 (q .if2 .left))) _ (d .decode .ensures) _ (o .block-ok .ensures) (not-false _ (p .if3 .left)) _ (h .out-of-handles .ensures) (i .if4 .left))
+    (inspect-0 _ (λ k. releaseBytes (quietRelease k (a .handle) (a .tick))) (lent (a .block .now) [] [] [] (a .answer .now)) (true-and _ _ (eq-eqb _ 16384 (q .before .if1 .left)) (eq-eqb _ 12 (q .if2 .left))) _ refl _ (o .block-ok .ensures) (not-false _ (p .if3 .left)) _ (h .out-of-handles .ensures) (i .if4 .left))
 
 pub operate-spec : {M : Type 1} → statement M
 operate-spec =
@@ -89,7 +80,6 @@ operate-spec =
     (tie.spec
     returns
     returns-2
-    decode-requires
     block-ok-requires
     returns-3
     out-of-handles-requires

@@ -1,4 +1,4 @@
-use mathlib.Core.Path.{_∙_}
+use mathlib.Core.Path.{refl, _∙_}
 use borrow.Author.Tests.{eq-eqb, ne-eqb, not-true, not-false}
 use mathlib.Core.Bool.{not}
 use mathlib.Core.List.{[]}
@@ -14,11 +14,8 @@ use Rattle.satisfied_now.proofs.operate.Statement.{statement}
 use Rattle.satisfied_now.proofs.operate.Tie as tie
 use Rattle.satisfied_now.proofs.operate.Reads as reads
 use Rattle.satisfied_now.proofs.operate.Lts as lts
-use Rattle.block.proofs.decode.Reads as decode-reads
 use Rattle.lent.proofs.questions.block_ok.Reads as block-ok-reads
-use Rattle.lent.proofs.questions.out_of_handles.Reads as out-of-handles-reads
 use Rattle.satisfied_now.proofs.put_satisfied.Reads as put-satisfied-reads
-use Rattle.wait.proofs.now.satisfied_now.Reads as satisfied-now-reads
 
 returns : tie.Need-returns
 unfolding operation.satisfiedNow
@@ -38,9 +35,6 @@ returns-3 c =
     let a = c .before .before .before .before .before .before .args in
     inspect-1 _ (λ k. satisfiedBytes (satisfiedNow k (words (a .handles .now)) (not (eqb (a .wait-all) 0)) (a .tick))) (lent (a .block .now) [] [] [] (a .answer .now)) (and-yes _ _ (eq-eqb _ 16384 (c .before .before .if1 .left)) ∙ (and-yes _ _ (eq-eqb _ 0 (c .before .if2 .left)) ∙ ne-eqb _ 40 (c .if3 .taken)))
 
-decode-requires : tie.Need-decode-requires
-decode-requires c κs = search needs
-
 block-ok-requires : tie.Need-block-ok-requires
 block-ok-requires c κs = search needs
 
@@ -48,24 +42,22 @@ returns-4 : tie.Need-returns-4
 unfolding operation.satisfiedNow
 returns-4 c =
     let o = c .before in
-    let d = o .before in
-    let q = d .before in
-    let a = c .before .before .before .before .before .before .before .before .before .args in
-    inspect-2 _ (λ k. satisfiedBytes (satisfiedNow k (words (a .handles .now)) (not (eqb (a .wait-all) 0)) (a .tick))) (lent (a .block .now) [] [] [] (a .answer .now)) (true-and _ _ (eq-eqb _ 16384 (q .before .before .if1 .left)) (true-and _ _ (eq-eqb _ 0 (q .before .if2 .left)) (eq-eqb _ 40 (q .if3 .left)))) _ (d .decode .ensures) _ (o .block-ok .ensures) (not-true _ (c .if4 .taken))
+    let q = o .before in
+    let a = q .before .before .before .before .before .before .args in
+    inspect-2 _ (λ k. satisfiedBytes (satisfiedNow k (words (a .handles .now)) (not (eqb (a .wait-all) 0)) (a .tick))) (lent (a .block .now) [] [] [] (a .answer .now)) (true-and _ _ (eq-eqb _ 16384 (q .before .before .if1 .left)) (true-and _ _ (eq-eqb _ 0 (q .before .if2 .left)) (eq-eqb _ 40 (q .if3 .left)))) _ refl _ (o .block-ok .ensures) (not-true _ (c .if4 .taken))
 
 out-of-handles-requires : tie.Need-out-of-handles-requires
 out-of-handles-requires c κs = search needs
 
 returns-5 : tie.Need-returns-5
-unfolding operation.satisfiedNow operation.outOfHandles?
+unfolding operation.satisfiedNow
 returns-5 c =
     let h = c .before in
-    let p = h .before .before in
+    let p = h .before in
     let o = p .before in
-    let d = o .before in
-    let q = d .before in
-    let a = c .before .before .before .before .before .before .before .before .before .before .before .before .args in
-    inspect-8 _ (λ k. satisfiedBytes (satisfiedNow k (words (a .handles .now)) (not (eqb (a .wait-all) 0)) (a .tick))) (lent (a .block .now) [] [] [] (a .answer .now)) (true-and _ _ (eq-eqb _ 16384 (q .before .before .if1 .left)) (true-and _ _ (eq-eqb _ 0 (q .before .if2 .left)) (eq-eqb _ 40 (q .if3 .left)))) _ (d .decode .ensures) _ (o .block-ok .ensures) (not-false _ (p .if4 .left)) _ (h .out-of-handles .ensures) (c .if5 .taken)
+    let q = o .before in
+    let a = q .before .before .before .before .before .before .args in
+    inspect-8 _ (λ k. satisfiedBytes (satisfiedNow k (words (a .handles .now)) (not (eqb (a .wait-all) 0)) (a .tick))) (lent (a .block .now) [] [] [] (a .answer .now)) (true-and _ _ (eq-eqb _ 16384 (q .before .before .if1 .left)) (true-and _ _ (eq-eqb _ 0 (q .before .if2 .left)) (eq-eqb _ 40 (q .if3 .left)))) _ refl _ (o .block-ok .ensures) (not-false _ (p .if4 .left)) _ (h .out-of-handles .ensures) (c .if5 .taken)
 
 satisfied-now-requires : tie.Need-satisfied-now-requires
 satisfied-now-requires c κs = search needs
@@ -77,19 +69,18 @@ same-length : tie.Need-same-length
 same-length c = search needs
 
 returns-6 : tie.Need-returns-6
-unfolding operation.satisfiedNow operation.outOfHandles?
+unfolding operation.satisfiedNow
 returns-6 c =
     let t = c .before .before in
     let n = t .before in
     let i = n .before .before in
     let h = i .before in
-    let p = h .before .before in
+    let p = h .before in
     let o = p .before in
-    let d = o .before in
-    let q = d .before in
-    let a = c .before .before .before .before .before .before .before .before .before .before .before .before .before .before .before .before .before .args in
+    let q = o .before in
+    let a = q .before .before .before .before .before .before .args in
     rw (t .put-satisfied .ensures, n .satisfied-now .ensures)
-    (inspect-0 _ (λ k. satisfiedBytes (satisfiedNow k (words (a .handles .now)) (not (eqb (a .wait-all) 0)) (a .tick))) (lent (a .block .now) [] [] [] (a .answer .now)) (true-and _ _ (eq-eqb _ 16384 (q .before .before .if1 .left)) (true-and _ _ (eq-eqb _ 0 (q .before .if2 .left)) (eq-eqb _ 40 (q .if3 .left)))) _ (d .decode .ensures) _ (o .block-ok .ensures) (not-false _ (p .if4 .left)) _ (h .out-of-handles .ensures) (i .if5 .left))
+    (inspect-0 _ (λ k. satisfiedBytes (satisfiedNow k (words (a .handles .now)) (not (eqb (a .wait-all) 0)) (a .tick))) (lent (a .block .now) [] [] [] (a .answer .now)) (true-and _ _ (eq-eqb _ 16384 (q .before .before .if1 .left)) (true-and _ _ (eq-eqb _ 0 (q .before .if2 .left)) (eq-eqb _ 40 (q .if3 .left)))) _ refl _ (o .block-ok .ensures) (not-false _ (p .if4 .left)) _ (h .out-of-handles .ensures) (i .if5 .left))
 
 pub operate-spec : {M : Type 1} → statement M
 operate-spec =
@@ -98,7 +89,6 @@ operate-spec =
     returns
     returns-2
     returns-3
-    decode-requires
     block-ok-requires
     returns-4
     out-of-handles-requires

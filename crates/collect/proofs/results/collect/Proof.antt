@@ -1,14 +1,28 @@
-use Rattle.svc.specs.Collect.{collect}
+use Rattle.svc.specs.Collect as def
 use borrow.Author.Needs.{needs}
 use Rattle.collect.proofs.results.collect.Statement.{statement}
 use Rattle.collect.proofs.results.collect.Tie as tie
+use Rattle.collect.proofs.results.collect.Reads as reads
+use Rattle.collect.proofs.results.collect.Lts as lts
+use Rattle.collect.proofs.results.collect_as.Reads as collect-as-reads
+use Rattle.rows.proofs.read.current.Reads as current-reads
 
+-- src/results.rt:108:9
+current-requires : tie.Need-current-requires
+current-requires c κs = search needs
+
+-- src/results.rt:109:5
 collect-as-requires : tie.Need-collect-as-requires
 collect-as-requires c κs = search needs
 
+-- src/results.rt:103:1
+same-length : tie.Need-same-length
+same-length c = search needs
+
+-- src/results.rt:103:1
 returns : tie.Need-returns
-unfolding collect
-returns c = c .collect-as .ensures
+unfolding def.collect
+returns c = rw (c .before .before .before .before .current .ensures) at (c .before .before .collect-as .ensures)
 
 pub collect-spec : {M : Type 1} → statement M
-collect-spec = tie.close (tie.spec collect-as-requires returns)
+collect-spec = tie.close (tie.spec current-requires collect-as-requires same-length returns)

@@ -1,20 +1,31 @@
+use mathlib.Core.Path.{ap, _∙_}
 use native.Mathlib.Omega.{arith}
+use Rattle.codec.proofs.Fit.{length-decAll}
+use Rattle.types.specs.declared.thread.Thread.{Thread}
+use Rattle.block.specs.Block.{decBlock}
+use Rattle.block.specs.Thread.{decThread}
+use Rattle.block.specs.Tables.{threadsIn}
 use Rattle.pick.proofs.Steps.{far}
 use borrow.Author.Needs.{needs}
 use Rattle.collect.proofs.results.result_at.Statement.{statement}
 use Rattle.collect.proofs.results.result_at.Tie as tie
+use Rattle.collect.proofs.results.result_at.Reads as reads
+use Rattle.collect.proofs.results.result_at.Lts as lts
+use Rattle.rows.proofs.read.thread_at.Reads as thread-at-reads
 
+-- src/results.rt:24:9
 returns : tie.Need-returns
-returns c = rw (far (c .before .args .t1) (c .before .args .c) (omega (arith, c .before .good)))
+unfolding decBlock
+returns c = let a = c .before .before .args in
+    rw (far (threadsIn (a .block .now)) (a .c) (omega (arith, length-decAll decThread 160 32 (a .block .now) 128, c .if1 .taken)))
 
-mul-t : tie.Need-mul-t
-mul-t c = search needs
+-- src/results.rt:26:9
+thread-at-requires : tie.Need-thread-at-requires
+thread-at-requires c κs = search needs
 
-array-copy-out-t : tie.Need-array-copy-out-t
-array-copy-out-t c = search needs
-
+-- src/results.rt:19:1
 returns-2 : tie.Need-returns-2
-returns-2 c = search needs
+returns-2 c = ap (λ (x : Thread). x .«wait_result») (c .thread-at .ensures)
 
 pub result-at-spec : {M : Type 1} → statement M
-result-at-spec = tie.close (tie.spec returns mul-t array-copy-out-t returns-2)
+result-at-spec = tie.close (tie.spec returns thread-at-requires returns-2)

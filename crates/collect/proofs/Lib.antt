@@ -1,0 +1,2 @@
+-- The laws that the proofs of `collect` cite.
+pub mod Found

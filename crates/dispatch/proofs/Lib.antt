@@ -1,0 +1,2 @@
+-- The laws that the proofs of `dispatch` cite.
+pub mod Numbers

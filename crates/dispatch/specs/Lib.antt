@@ -1,2 +1,0 @@
--- The calls in four ranges of numbers.
-pub mod Parts

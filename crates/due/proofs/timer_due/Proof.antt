@@ -1,0 +1,66 @@
+use mathlib.Core.Path.{_≡_, refl, sym, ap, _∙_}
+use Prim.Native.Nat.{_-_, _≤_}
+use native.Mathlib.Omega.{arith}
+use lib.ListN.{drop}
+use Rattle.types.specs.declared.object.Slot.{Slot}
+use Rattle.block.specs.Block.{decBlock}
+use Rattle.kernel.specs.NextEvent.{dueOf}
+use Rattle.pass.specs.Timers.{dueBy, timerDue}
+use Rattle.due.proofs.Looked.{look-hit, look-miss, look-end}
+use borrow.Author.Needs.{needs}
+use Rattle.due.proofs.timer_due.Statement.{statement}
+use Rattle.due.proofs.timer_due.Tie as tie
+
+abbrev Inv-loop : tie.InvT-loop
+Inv-loop b tick i₀ i = (i ≤ 128) × (timerDue tick (drop i (decBlock b .objects .slots)) ≡ timerDue tick (decBlock b .objects .slots))
+
+abbrev μ-loop : tie.MeasureT-loop
+μ-loop b tick i₀ i = 128 - i
+
+loop-holds : tie.Need-loop-holds Inv-loop μ-loop
+loop-holds c = (search needs, refl)
+
+slot-at-requires : tie.Need-slot-at-requires Inv-loop μ-loop
+slot-at-requires c κs = search needs
+
+slot-due-requires : tie.Need-slot-due-requires Inv-loop μ-loop
+slot-due-requires c κs = search needs
+
+returns : tie.Need-returns Inv-loop μ-loop
+unfolding timerDue
+returns c = let d = c .before .before .before .before in
+    let a = d .before .before .args in
+    sym (look-hit (a .b .now) (λ (x : Slot). dueBy (dueOf (x .object)) (a .tick)) (timerDue (a .tick)) refl (λ x xs. refl) (d .loop .i) (d .loop .inv .1) (omega arith) (sym (c .before .slot-due .ensures ∙ ap (λ (x : Slot). dueBy (dueOf (x .object)) (a .tick)) (c .before .before .slot-at .ensures)) ∙ c .if1 .taken))
+
+add-i : tie.Need-add-i Inv-loop μ-loop
+add-i c = search needs
+
+loop-less : tie.Need-loop-less Inv-loop μ-loop
+loop-less c = search needs
+
+loop-again : tie.Need-loop-again Inv-loop μ-loop
+unfolding timerDue
+loop-again c = let d = c .before .before .before .before in
+    let a = d .before .before .args in
+    (search needs, look-miss (a .b .now) (λ (x : Slot). dueBy (dueOf (x .object)) (a .tick)) (timerDue (a .tick)) refl (λ x xs. refl) (d .loop .i) (d .loop .inv .1) (omega arith) (sym (c .before .slot-due .ensures ∙ ap (λ (x : Slot). dueBy (dueOf (x .object)) (a .tick)) (c .before .before .slot-at .ensures)) ∙ c .if1 .left))
+
+returns-2 : tie.Need-returns-2 Inv-loop μ-loop
+unfolding timerDue
+returns-2 c = let d = c .before in
+    let a = d .before .before .args in
+    sym (look-end (a .b .now) (λ (x : Slot). dueBy (dueOf (x .object)) (a .tick)) (timerDue (a .tick)) refl (λ x xs. refl) (d .loop .i) (d .loop .inv .1) (omega arith))
+
+pub timer-due-spec : {M : Type 1} → statement M
+timer-due-spec =
+    tie.close
+    (tie.spec
+    Inv-loop
+    μ-loop
+    loop-holds
+    slot-at-requires
+    slot-due-requires
+    returns
+    add-i
+    loop-less
+    loop-again
+    returns-2)

@@ -1,0 +1,2 @@
+-- The laws that the proofs of `ending` cite.
+pub mod Ended

@@ -1,0 +1,3 @@
+-- The laws that the proofs of `handle_calls` cite.
+pub mod Written
+pub mod Found

@@ -1,0 +1,2 @@
+-- What opening a handle leaves.
+pub mod Open

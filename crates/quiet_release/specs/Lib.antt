@@ -1,0 +1,2 @@
+-- A quiet release as it is computed.
+pub mod Alone

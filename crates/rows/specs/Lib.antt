@@ -1,0 +1,5 @@
+-- One record of a block anew, and what the block holds then.
+pub mod Rows
+pub mod Over
+pub mod Holds
+pub mod Head

@@ -1,2 +1,0 @@
--- The laws that the proofs of `scheduler` cite.
-pub mod Calm

@@ -1,0 +1,28 @@
+use borrow.Author.Needs.{needs}
+use Rattle.spawn.proofs.new_head.Statement.{statement}
+use Rattle.spawn.proofs.new_head.Tie as tie
+use Rattle.spawn.proofs.new_head.Reads as reads
+use Rattle.spawn.proofs.new_head.Lts as lts
+use Rattle.object.proofs.handles.more_below.Reads as more-below-reads
+use Rattle.thread.proofs.create.counted.Reads as counted-reads
+use Rattle.thread.proofs.create.given_out.Reads as given-out-reads
+
+-- src/lib.rt:90:9
+counted-requires : tie.Need-counted-requires
+counted-requires c κs = search needs
+
+-- src/lib.rt:91:9
+given-out-requires : tie.Need-given-out-requires
+given-out-requires c κs = search needs
+
+-- src/lib.rt:92:9
+more-below-requires : tie.Need-more-below-requires
+more-below-requires c κs = search needs
+
+-- src/lib.rt:83:1
+returns : tie.Need-returns
+returns c = rw (c .more-below .ensures, c .before .given-out .ensures, c .before .before .counted .ensures)
+
+pub new-head-spec : {M : Type 1} → statement M
+new-head-spec =
+    tie.close (tie.spec counted-requires given-out-requires more-below-requires returns)

@@ -1,0 +1,40 @@
+use mathlib.Core.Path.{_≡_, refl, ap, sym, _∙_}
+use mathlib.Core.List.{List}
+use borrow.Author.Tests.{eq-eqb, ne-eqb, le-ltb}
+use Rattle.types.specs.declared.thread.Thread.{Thread}
+use Rattle.types.specs.declared.thread.ThreadOption.{ThreadOption}
+use Rattle.types.specs.declared.thread.TickOption.{TickOption}
+use Rattle.block.specs.Block.{decBlock}
+use Rattle.rows.specs.Rows.{threadPut}
+use borrow.Author.Needs.{needs}
+use Rattle.threads.proofs.sleep.put_running.Statement.{statement}
+use Rattle.threads.proofs.sleep.put_running.Tie as tie
+use Rattle.threads.proofs.sleep.put_running.Reads as reads
+use Rattle.threads.proofs.sleep.put_running.Lts as lts
+use Rattle.rows.proofs.read.thread_at.Reads as thread-at-reads
+use Rattle.rows.proofs.write.put_thread.Reads as put-thread-reads
+
+-- src/sleep.rt:60:9
+returns : tie.Need-returns
+unfolding threadPut
+returns c = rw (le-ltb _ 32 (c .if1 .taken))
+
+-- src/sleep.rt:62:9
+thread-at-requires : tie.Need-thread-at-requires
+thread-at-requires c κs = search needs
+
+-- src/sleep.rt:65:5
+put-thread-requires : tie.Need-put-thread-requires
+put-thread-requires c κs = search needs
+
+-- src/sleep.rt:55:1
+same-length : tie.Need-same-length
+same-length c = search needs
+
+-- src/sleep.rt:55:1
+returns-2 : tie.Need-returns-2
+returns-2 c = rw (c .before .before .put-thread .ensures, c .before .before .before .before .thread-at .ensures)
+
+pub put-running-spec : {M : Type 1} → statement M
+put-running-spec =
+    tie.close (tie.spec returns thread-at-requires put-thread-requires same-length returns-2)

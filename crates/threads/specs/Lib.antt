@@ -1,0 +1,2 @@
+-- What is found when a guest makes a thread.
+pub mod Made

@@ -1,0 +1,3 @@
+-- The laws that the proofs of `timer_calls` cite.
+pub mod Found
+pub mod Changed

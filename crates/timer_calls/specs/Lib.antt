@@ -1,0 +1,3 @@
+-- What the calls on timers do in the block.
+pub mod Caught
+pub mod Named

@@ -1,0 +1,2 @@
+-- The laws that the proofs of `vacant` cite.
+pub mod Steps

@@ -1,0 +1,9 @@
+-- The laws that the proofs of `wait_calls` cite.
+pub mod Counts
+pub mod Holding
+pub mod Begins
+pub mod Fits
+pub mod Slots
+pub mod Takes
+pub mod Ways
+pub mod Lists

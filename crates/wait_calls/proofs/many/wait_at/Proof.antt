@@ -1,0 +1,65 @@
+use mathlib.Core.Path.{refl}
+use borrow.Author.Tests.{eq-eqb, ne-eqb}
+use Rattle.types.specs.declared.thread.WaitSyscall.the-variants.{WaitSynchronizationN}
+use Rattle.block.specs.Block.{decBlock}
+use Rattle.svc.specs.Call.{answers}
+use Rattle.blocking.specs.Waits.{waitOnIn}
+use Rattle.timer_calls.proofs.Found.{leaves}
+use Rattle.wait_calls.proofs.Begins.{begun-finding}
+use Rattle.wait_calls.proofs.Ways.{stays}
+use borrow.Author.Needs.{needs}
+use Rattle.wait_calls.proofs.many.wait_at.Statement.{statement}
+use Rattle.wait_calls.proofs.many.wait_at.Tie as tie
+
+enum-told : tie.Need-enum-told
+enum-told c = search needs
+
+answers-requires : tie.Need-answers-requires
+answers-requires c κs = search needs
+
+returns : tie.Need-returns
+returns c = let k = decBlock (c .before .before .before .before .before .args .block .now) in
+    rw (c .before .before .enum-told .given .1, eq-eqb _ 0 (c .before .if1 .taken)) (stays (c .before .before .before .before .before .args .block .now) (c .before .before .before .before .before .pre .1 .0) (c .before .before .before .before .before .pre .1 .1 .0) _ (answers 17 k) (answers 17 k) refl refl (c .answers .ensures))
+
+begin-wait-requires : tie.Need-begin-wait-requires
+begin-wait-requires c κs = search needs
+
+silent-requires : tie.Need-silent-requires
+silent-requires c κs = search needs
+
+enum-known-found : tie.Need-enum-known-found
+enum-known-found c = search needs
+
+take-at-requires : tie.Need-take-at-requires
+take-at-requires c κs = search needs
+
+same-length : tie.Need-same-length
+same-length c = search needs
+
+returns-2 : tie.Need-returns-2
+returns-2 c = let a = c .before .before .before .before .before .before .before .before .before .args in
+    let v = waitOnIn (decBlock (a .block .now)) (a .c) (a .l) (a .n) (a .all) (a .nanos) (a .tick) WaitSynchronizationN in
+    rw (c .before .before .before .before .before .before .enum-told .given .1, ne-eqb _ 0 (c .before .before .before .before .before .if1 .left))
+    (leaves (a .block .now) _ _ v v refl (begun-finding (a .block .now) (c .before .before .before .before .before .before .before .before .before .pre .1 .1 .0) (a .c) (a .l) (a .n) (a .all) (a .nanos) (a .tick) WaitSynchronizationN (c .before .before .before .before .before .before .before .before .before .pre .1 .1 .1)) (c .silent .ensures) (c .before .before .before .begin-wait .ensures))
+
+same-length-2 : tie.Need-same-length-2
+same-length-2 c = search needs
+
+returns-3 : tie.Need-returns-3
+returns-3 c = rw (c .before .before .before .before .before .found .given .1) (c .before .before .take-at .ensures)
+
+pub wait-at-spec : {M : Type 1} → statement M
+wait-at-spec =
+    tie.close
+    (tie.spec
+    enum-told
+    answers-requires
+    returns
+    begin-wait-requires
+    silent-requires
+    enum-known-found
+    take-at-requires
+    same-length
+    returns-2
+    same-length-2
+    returns-3)

@@ -1,0 +1,62 @@
+// The current thread begins to wait on a list of objects, which it holds while it waits.
+use blocking::waits;
+use object::store;
+use rows::read;
+use rows::write;
+use types::thread::ThreadOption;
+use types::thread::WaitSyscall;
+use units::ObjectId;
+ghost use mathlib.Core.Path.{_≡_};
+ghost use mathlib.Core.Bool.{true};
+ghost use lib.ListN.{length, take};
+ghost use Rattle.block.specs.Block.{encBlock, decBlock};
+ghost use Rattle.sound.specs.View.{ids};
+ghost use Rattle.sound.specs.Question.{sound?};
+ghost use Rattle.object.specs.Store.{addRefs};
+ghost use Rattle.svc.specs.Call.{withObjects};
+ghost use Rattle.rows.specs.Holds.{Holds};
+ghost use Rattle.blocking.specs.Waits.{waitOnIn};
+
+// One holder more for each of the first n. An object may be listed twice, so each slot is read after the last write.
+fn hold_list(block: &mut [u8], l: [ObjectId; 8], n: u32)
+    requires { ⌜ length (now block) ≡ 16384 ⌝ }
+    requires { ⌜ sound? (now block) ≡ true ⌝ }
+    ensures { λ _. ⌜ Holds (now (block .exit)) (withObjects (decBlock (now (block .entry))) (addRefs (decBlock (now (block .entry)) .objects) (take n (ids l)))) ⌝ }
+{
+    let mut i: usize = 0;
+    while i < 8 {
+        if n <= i as u32 {
+            return;
+        }
+        let o = l[i];
+        let x = read::slot_at(block, o.0);
+        let y = store::held(x);
+        write::put_slot(block, o.0, y);
+        i += 1;
+    }
+}
+
+// The call is noted for its result.
+pub fn begin_wait(
+    block: &mut [u8],
+    c: u32,
+    l: [ObjectId; 8],
+    n: u32,
+    all: bool,
+    nanos: u64,
+    tick: u64,
+    call: WaitSyscall,
+)
+    requires { ⌜ length (now block) ≡ 16384 ⌝ }
+    requires { ⌜ sound? (now block) ≡ true ⌝ }
+    requires { ⌜ decBlock (now block) .«current_thread» ≡ ThreadOption.SomeThread c ⌝ }
+    ensures { λ _. ⌜ now (block .exit) ≡ encBlock (waitOnIn (decBlock (now (block .entry))) c l n all nanos tick call .kernel) ⌝ }
+{
+    let t = read::thread_at(block, c);
+    let time = waits::wait_time(nanos);
+    let wake = begin::wake_tick(time, tick);
+    let waiting = begin::waiting(t, l, n, all, wake);
+    let noted = waits::with_call(waiting, call);
+    hold_list(block, l, n);
+    write::put_thread(block, c, noted);
+}

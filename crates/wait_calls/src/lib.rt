@@ -1,0 +1,7 @@
+// The calls that wait on objects, in the block where it lies.
+pub mod before;
+pub mod begin_wait;
+pub mod look;
+pub mod many;
+pub mod one;
+pub mod take;

@@ -1,0 +1,109 @@
+// `wait_synchronization1` (svc.rs).
+use crate::begin_wait;
+use crate::look;
+use crate::take;
+use blocking::waits;
+use outcome::Outcome;
+use rows::read;
+use svc::Registers;
+use timer_calls::caught;
+use types::thread::ThreadOption;
+use types::thread::WaitSyscall;
+use units::ObjectId;
+ghost use mathlib.Core.Path.{_≡_};
+ghost use mathlib.Core.Bool.{true, false};
+ghost use lib.ListN.{length};
+ghost use Rattle.block.specs.Block.{decBlock};
+ghost use Rattle.sound.specs.Question.{sound?};
+ghost use Rattle.object.specs.Handles.{objectOf};
+ghost use Rattle.pass.specs.Asks.{pseudo};
+ghost use Rattle.svc.specs.Waits as def;
+ghost use Rattle.lent.specs.Operations.{outOfHandles?};
+ghost use Rattle.outcome.specs.Outcome.{outcome, left};
+ghost use Rattle.wait_calls.specs.Named.{wait1Named};
+
+// A time-out of 0 does not wait.
+fn wait_one(block: &mut [u8], c: u32, o: ObjectId, nanos: u64, tick: u64) -> Outcome
+    requires { ⌜ length (now block) ≡ 16384 ⌝ }
+    requires { ⌜ sound? (now block) ≡ true ⌝ }
+    requires { ⌜ outOfHandles? (decBlock (now block)) ≡ false ⌝ }
+    requires { ⌜ decBlock (now block) .«current_thread» ≡ ThreadOption.SomeThread c ⌝ }
+    ensures { λ r. ⌜ r ≡ outcome (def.wait1As (ThreadOption.SomeThread c) (decBlock (now (block .entry))) (o .0) nanos tick) ⌝ }
+    ensures { λ _. ⌜ now (block .exit) ≡ left (def.wait1As (ThreadOption.SomeThread c) (decBlock (now (block .entry))) (o .0) nanos tick) (now (block .entry)) ⌝ }
+{
+    let x = read::slot_at(block, o.0);
+    let v = x.object;
+    if look::signaled(block, v, c) {
+        let found = take::take(block, o, c);
+        if found != 0 {
+            return outcome::refused(found);
+        }
+        return outcome::done();
+    }
+    if nanos == 0 {
+        return outcome::answers(17);
+    }
+    let none = ObjectId(0);
+    let mut l = [none; 8];
+    l[0] = o;
+    begin_wait::begin_wait(
+        block,
+        c,
+        l,
+        1,
+        false,
+        nanos,
+        tick,
+        WaitSyscall::WaitSynchronization1,
+    );
+    outcome::silent()
+}
+
+// The call once the timers have fired; the handle names o.
+fn wait_named(block: &mut [u8], r: Registers, o: ObjectId, tick: u64) -> Outcome
+    requires { ⌜ length (now block) ≡ 16384 ⌝ }
+    requires { ⌜ sound? (now block) ≡ true ⌝ }
+    requires { ⌜ outOfHandles? (decBlock (now block)) ≡ false ⌝ }
+    requires { ⌜ pseudo (r .r0) ≡ false ⌝ }
+    requires { ⌜ o .0 ≡ objectOf (decBlock (now block) .handles) (r .r0) ⌝ }
+    ensures { λ v. ⌜ v ≡ outcome (wait1Named (decBlock (now (block .entry))) r tick) ⌝ }
+    ensures { λ _. ⌜ now (block .exit) ≡ left (wait1Named (decBlock (now (block .entry))) r tick) (now (block .entry)) ⌝ }
+{
+    if o.0 == 0 {
+        return outcome::answers(16);
+    }
+    let current = read::current(block);
+    if types::thread::thread_flag(current) == 0 {
+        return outcome::done();
+    }
+    let c = types::thread::thread_value(current);
+    let nanos = answering::pair(r.r2, r.r3);
+    wait_one(block, c, o, nanos, tick)
+}
+
+fn by_value(block: &mut [u8], r: Registers, tick: u64) -> Outcome
+    requires { ⌜ length (now block) ≡ 16384 ⌝ }
+    ensures { λ o. ⌜ o ≡ outcome (def.waitSynchronization1 (decBlock (now (block .entry))) r tick) ⌝ }
+    ensures { λ _. ⌜ now (block .exit) ≡ left (def.waitSynchronization1 (decBlock (now (block .entry))) r tick) (now (block .entry)) ⌝ }
+{
+    let k = block::decode(block);
+    outcome::finish(block, waits::wait_synchronization1(k, r, tick))
+}
+
+// r0 handle, r2 and r3 nanoseconds. What the wait may find of the object is looked for before the timers fire, since a
+// finding must leave the block as it was; then it goes by value, and so does a pseudo-handle: its object may have to be made.
+pub fn wait_synchronization1(block: &mut [u8], r: Registers, tick: u64) -> Outcome
+    requires { ⌜ length (now block) ≡ 16384 ⌝ }
+    requires { ⌜ sound? (now block) ≡ true ⌝ }
+    ensures { λ o. ⌜ o ≡ outcome (def.waitSynchronization1 (decBlock (now (block .entry))) r tick) ⌝ }
+    ensures { λ _. ⌜ now (block .exit) ≡ left (def.waitSynchronization1 (decBlock (now (block .entry))) r tick) (now (block .entry)) ⌝ }
+{
+    let o = read::object_of(block, r.r0);
+    if take::over(block, o) {
+        return by_value(block, r, tick);
+    }
+    if !caught::ready(block, r.r0, tick) {
+        return by_value(block, r, tick);
+    }
+    wait_named(block, r, o, tick)
+}

@@ -1,0 +1,40 @@
+// What a wait that succeeds takes of an object.
+use rows::read;
+use rows::write;
+use units::ObjectId;
+ghost use mathlib.Core.Path.{_≡_};
+ghost use mathlib.Core.Bool.{true, false};
+ghost use lib.ListN.{length};
+ghost use Rattle.block.specs.Block.{decBlock};
+ghost use Rattle.sound.specs.View.{objectAt};
+ghost use Rattle.sound.specs.Question.{sound?};
+ghost use Rattle.pass.specs.Signal.{acquire, acquireOver};
+ghost use Rattle.svc.specs.Call.{done, withObjects};
+ghost use Rattle.lent.specs.Operations.{finding, outOfHandles?};
+ghost use Rattle.outcome.specs.Outcome.{left};
+
+// Whether a wait finds the count of an object too large to take of it.
+pub fn over(block: &[u8], o: ObjectId) -> bool
+    requires { ⌜ length (now block) ≡ 16384 ⌝ }
+    ensures { λ r. ⌜ r ≡ acquireOver (objectAt (decBlock (now (block .entry)) .objects) (o .0)) ⌝ }
+{
+    let x = read::slot_at(block, o.0);
+    acquire::over_after(false, x)
+}
+
+// What question 8 finds, 0 for nothing: the lock count of a mutex may not fit any more. Then the block stays as it is.
+pub fn take(block: &mut [u8], o: ObjectId, w: u32) -> u32
+    requires { ⌜ length (now block) ≡ 16384 ⌝ }
+    requires { ⌜ sound? (now block) ≡ true ⌝ }
+    requires { ⌜ outOfHandles? (decBlock (now block)) ≡ false ⌝ }
+    ensures { λ n. ⌜ n ≡ finding (withObjects (decBlock (now (block .entry))) (acquire (decBlock (now (block .entry)) .objects) (o .0) w)) ⌝ }
+    ensures { λ _. ⌜ now (block .exit) ≡ left (done (withObjects (decBlock (now (block .entry))) (acquire (decBlock (now (block .entry)) .objects) (o .0) w))) (now (block .entry)) ⌝ }
+{
+    let x = read::slot_at(block, o.0);
+    if acquire::over_after(false, x) {
+        return 8;
+    }
+    let y = acquire::acquired_slot(x, w);
+    write::put_slot(block, o.0, y);
+    0
+}
