@@ -11,7 +11,7 @@ use lib.ListN.{length, take, drop, set, getD, drop-of-length-le}
 use lib.Seq.{take-all, set-getD}
 use borrow.Author.Tests.{eq-eqb, ne-eqb}
 use Rattle.laws.specs.Logic.{_and_, _or_}
-use Rattle.laws.specs.Count.{at, put}
+use Rattle.laws.specs.Count.{at}
 use Rattle.laws.specs.Walk.{walk, walk-nil, walk-out, walk-go}
 use Rattle.types.specs.declared.thread.Thread as th
 use Rattle.types.specs.declared.object.KObject.{KObject}
@@ -24,10 +24,9 @@ use Rattle.types.specs.Object.{headOf}
 use Rattle.sound.specs.View.{threadAt, slotAt, objectAt, noSlot, waiterNexts, waiterAddresses}
 use Rattle.sound.specs.Records.{chainOf}
 use Rattle.object.specs.declared.waiters.Links.{Links}
-use Rattle.object.specs.declared.waiters.Ends.{Ends}
 use Rattle.object.specs.Slots.{slotPut}
 use Rattle.object.specs.Waiters.{waiterAt, link, withHead, relinked}
-use Rattle.object.specs.Cells.{joined, linksOf, threads-joined, put-next, put-freed}
+use Rattle.object.specs.Cells.{joined, linksOf, threads-joined}
 use Rattle.object.proofs.Laws.{at-waiters, at-thread}
 use Rattle.kernel.specs.NextEvent.{contains}
 use Rattle.thread.specs.Threads.{withThreads}
@@ -54,15 +53,6 @@ module _ (rs ds : List ℕ) (a value : ℕ) (p : List ℕ) (n x : ℕ) where
   pub wakes : at ds x ≡ a → marked p (at rs x) ≡ true → more value n ≡ true → Decided false (n + 1) (set p (at rs x) 2)
   unfolding _and_ _or_
   wakes e g h = let f = eq-eqb (at ds x) a e in (rw (f, g, h), (rw (f, g, h), rw (f, g, h)))
-
--- ---- a record linked, in columns
-pub link-keep : (rs ds ns : List ℕ) (x : ℕ) (u : Ends) (keep : Bool) → keep ≡ true
-    → linksOf rs ds (put ns x (u .head)) (record { free = u .free; head = x }) ≡ link keep x (linksOf rs ds ns u)
-link-keep rs ds ns x u keep e = rw (e, put-next rs ds ns x (u .head))
-
-pub link-free : (rs ds ns : List ℕ) (x : ℕ) (u : Ends) (keep : Bool) → keep ≡ false
-    → linksOf (put rs x 0) (put ds x 0) (put ns x (u .free)) (record { free = x; head = u .head }) ≡ link keep x (linksOf rs ds ns u)
-link-free rs ds ns x u keep e = rw (e, put-freed rs ds ns x (u .free))
 
 -- ---- the walk
 addresses-joined : (rs ds ns : List ℕ) → length rs ≡ length ns → length ds ≡ length ns → waiterAddresses (joined rs ds ns) ≡ ds

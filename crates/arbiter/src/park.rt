@@ -22,7 +22,7 @@ ghost use Rattle.svc.specs.Sync.{biased};
 ghost use Rattle.arbiter.specs.Park.{parkTimeIn, wordAfter, overBelow, waitBelowIn};
 
 // Less than, as signed words.
-fn is_below(x: u32, y: u32) -> bool
+pub fn is_below(x: u32, y: u32) -> bool
     ensures { λ r. ⌜ r ≡ ltb (biased x) (biased y) ⌝ }
 {
     (x as u64 + 2147483648) % 4294967296 < (y as u64 + 2147483648) % 4294967296
@@ -42,7 +42,7 @@ pub fn park_time(timed: bool, nanos: u64) -> TickOption
 }
 
 // One less, as a signed word, if the kind decrements.
-fn word_after(decrements: bool, word: u32) -> WordOption
+pub fn word_after(decrements: bool, word: u32) -> WordOption
     ensures { λ r. ⌜ r ≡ wordAfter decrements word ⌝ }
 {
     if !decrements {
@@ -54,7 +54,7 @@ fn word_after(decrements: bool, word: u32) -> WordOption
     WordOption::SomeWord(word - 1)
 }
 
-fn over_below(before: bool, decrements: bool, word: u32) -> bool
+pub fn over_below(before: bool, decrements: bool, word: u32) -> bool
     ensures { λ r. ⌜ r ≡ overBelow before decrements word ⌝ }
 {
     if before {
@@ -67,7 +67,7 @@ fn over_below(before: bool, decrements: bool, word: u32) -> bool
 }
 
 // An older wait's result stays.
-fn parked(t: Thread, a: u32, wake: TickOption) -> Thread
+pub fn parked(t: Thread, a: u32, wake: TickOption) -> Thread
     ensures { λ r. ⌜ r ≡ def.parked t a wake ⌝ }
 {
     let c = thread::thread::without_wait(t);

@@ -23,7 +23,7 @@ ghost use Rattle.laws.specs.Walk.{walk};
 ghost use Rattle.types.specs.Object.{headOf};
 ghost use Rattle.sound.specs.View.{waiterNexts, slotAt};
 ghost use Rattle.sound.specs.Records.{chainOf};
-ghost use Rattle.object.specs.Waiters.{link, relinked};
+ghost use Rattle.object.specs.Waiters.{relinked};
 ghost use Rattle.object.specs.Cells.{joined, linksOf};
 ghost use Rattle.svc.specs.Arbiter as def;
 ghost use Rattle.arbiter.specs.Marks.{parkedMarks, marked, more, staysIn, countIn, marksIn, marksAfter, unlinkMarked, wakeMarked};
@@ -58,7 +58,7 @@ fn waits_arbiter(s: ThreadStatus) -> bool
 }
 
 // 1 if the thread is parked at the address, else 0.
-fn parked_mark(t: Thread, a: u32) -> u32
+pub fn parked_mark(t: Thread, a: u32) -> u32
     ensures { λ r. ⌜ r ≡ cells.one? (def.parkedAt t a) ⌝ }
 {
     let s = t.status;
@@ -164,39 +164,6 @@ fn decide(
     }
 }
 
-// The record x goes in front of what is kept, or of the free chain.
-fn link_cells(
-    threads: &mut [u32; 64],
-    addresses: &mut [u32; 64],
-    nexts: &mut [u32; 64],
-    keep: bool,
-    x: u32,
-    u: Ends,
-) -> Ends
-    requires { ⌜ length (now threads) ≡ 64 ⌝ }
-    requires { ⌜ length (now addresses) ≡ 64 ⌝ }
-    requires { ⌜ length (now nexts) ≡ 64 ⌝ }
-    ensures { λ r. ⌜ linksOf (now (threads .exit)) (now (addresses .exit)) (now (nexts .exit)) r ≡ link keep x (linksOf (now (threads .entry)) (now (addresses .entry)) (now (nexts .entry)) u) ⌝ }
-    ensures { λ _. ⌜ length (now (threads .exit)) ≡ 64 ⌝ }
-    ensures { λ _. ⌜ length (now (addresses .exit)) ≡ 64 ⌝ }
-    ensures { λ _. ⌜ length (now (nexts .exit)) ≡ 64 ⌝ }
-{
-    if keep {
-        waiters::put_cell(nexts, x, u.head);
-        return Ends {
-            free: u.free,
-            head: x,
-        };
-    }
-    waiters::put_cell(threads, x, 0);
-    waiters::put_cell(addresses, x, 0);
-    waiters::put_cell(nexts, x, u.free);
-    Ends {
-        free: x,
-        head: u.head,
-    }
-}
-
 // The chain from at without the records that wake their thread or were left behind, after n woken threads. The records
 // are lent as columns, so that no step of the walk copies the table.
 fn unlink_woken(
@@ -249,10 +216,10 @@ fn unlink_woken(
         left - 1,
         free,
     );
-    link_cells(threads, addresses, nexts, d.stays, at, u)
+    waiters::link_cells(threads, addresses, nexts, d.stays, at, u)
 }
 
-fn unlink_chain(
+pub fn unlink_chain(
     ws: [Waiter; 64],
     parked: &mut [u32; 32],
     a: u32,
@@ -320,7 +287,7 @@ fn signal_waiters(
 }
 
 // Its wait is over, with the index 0.
-fn woken_up(t: Thread) -> Thread
+pub fn woken_up(t: Thread) -> Thread
     ensures { λ r. ⌜ r ≡ def.wokenUp t ⌝ }
 {
     let call = t.wait_syscall;

@@ -51,12 +51,6 @@ unfolding decAll
 all-dec P dec size zero s at f b = tt
 all-dec P dec size (suc n) s at f b = (f _ (bytes-part s at size b), all-dec P dec size n s (at + size) f b)
 
--- numbers of one width
-pub fit-all : (w n : ℕ) (s : List ℕ) (at : ℕ) → Bytes s → All (λ v. v < 256 ^ w) (decAll num w n s at)
-unfolding decAll
-fit-all w zero s at b = tt
-fit-all w (suc n) s at b = (le-lt w s at b, fit-all w n s (at + w) b)
-
 pub length-decAll : {A : Type 0} (dec : List ℕ → A) (size n : ℕ) (s : List ℕ) (at : ℕ) → length (decAll dec size n s at) ≡ n
 unfolding decAll
 length-decAll dec size zero s at = refl

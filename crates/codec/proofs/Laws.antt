@@ -7,8 +7,7 @@ use native.Mathlib.Nat.{suc-add, zero-add, div-one, div-div-eq-div-mul, add-zero
 use native.Mathlib.Numerals.{add-one}
 use native.Mathlib.Omega.{arith}
 use lib.ListN.{length, take, drop, getD, set, length-append, length-take, length-drop, length-set, take-append-drop, drop-of-length-le}
-use lib.Seq.{drop-cons, take-at, drop-at, drop-drop, take-add, take-suc-set, drop-set-lt}
-use lib.Seq.{length-take-le}
+use lib.Seq.{drop-cons, take-at, drop-at, drop-drop, take-add, take-suc-set, drop-set-lt, length-take-le}
 use Rattle.codec.specs.Bytes.{num, le, bytes, over}
 
 -- n elements from at on, one by one

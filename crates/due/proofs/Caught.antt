@@ -37,7 +37,8 @@ use Rattle.soundness.specs.Whole.{sound-parts, parts-sound}
 use Rattle.svc.specs.Call.{withObjects}
 use Rattle.svc.specs.Timers.{caughtUp}
 use Rattle.calling.specs.Timers.{caught-parts}
-use Rattle.due.proofs.Looked.{slotIn, size-slots, slot-is}
+use Rattle.rows.specs.Sizes.{size-slots}
+use Rattle.due.proofs.Looked.{slotIn, slot-is}
 use Rattle.due.proofs.Slots.{caughtSlot, caughtTo, caught-set, caught-skip, caught-full, over-is}
 
 -- ---- one turn; s is the block before the first

@@ -6,19 +6,13 @@ use mathlib.Core.Logic.{inl, inr}
 use Prim.Native.Nat.{ℕ, _≤_, _<_}
 use native.Mathlib.Omega.{arith}
 use lib.Dec.{ltb}
-use lib.ListN.{length}
 use Rattle.laws.specs.Logic.{pick, lt-cases}
-use Rattle.codec.proofs.Fit.{length-decAll}
 use Rattle.types.specs.Thread.{isDead}
-use Rattle.block.specs.Thread.{decThread}
 use Rattle.block.specs.Block.{decBlock}
 use Rattle.sound.specs.View.{threadAt}
 use Rattle.lent.specs.Operations.{endRefusal}
 use Rattle.lent.proofs.Cases.{dead-far}
-
-size-threads : (b : List ℕ) → length (decBlock b .threads) ≡ 32
-unfolding decBlock
-size-threads b = length-decAll decThread 160 32 b 128
+use Rattle.rows.specs.Sizes.{size-threads}
 
 pub far-dead : (b : List ℕ) (t : ℕ) → 32 ≤ t → isDead (threadAt (decBlock b .threads) t .status) ≡ true
 far-dead b t h = dead-far (decBlock b .threads) t (omega (arith, size-threads b))

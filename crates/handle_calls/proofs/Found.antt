@@ -4,25 +4,20 @@ use mathlib.Core.Bool.{Bool, true, false}
 use mathlib.Core.List.{List}
 use Prim.Native.Nat.{ℕ, _<_, _+_}
 use native.Mathlib.Omega.{arith}
-use lib.Dec.{eqb, ltb, leb}
+use lib.Dec.{eqb, ltb}
 use borrow.Author.Tests.{lt-ltb, le-ltb, lt-leb}
-use Rattle.laws.specs.Logic.{pick, _or_}
-use Rattle.units.specs.declared.Handle.{Handle}
-use Rattle.types.specs.declared.kernel.Kernel.{Kernel}
+use Rattle.laws.specs.Logic.{_or_}
 use Rattle.types.specs.declared.object.ObjectStore.{ObjectStore}
-use Rattle.types.specs.declared.object.HandleTable.{HandleTable}
 use Rattle.block.specs.Block.{decBlock}
-use Rattle.object.specs.Slots.{withSlots}
 use Rattle.object.specs.Store.{addRef}
 use Rattle.object.specs.Handles.{give, create, close}
 use Rattle.object.proofs.Laws.{add-ref-held}
 use Rattle.svc.specs.declared.Registers.{Registers}
-use Rattle.svc.specs.declared.Served.{Served}
-use Rattle.svc.specs.Call.{withHandles, withObjects, resolved, answers, gives}
+use Rattle.svc.specs.Call.{withHandles, withObjects, resolved}
 use Rattle.svc.specs.Handles.{closeHandle, duplicateHandle}
 use Rattle.lent.specs.Operations.{finding, outOfHandles?}
-use Rattle.outcome.specs.Findings.{foundOf, both-finding, parts-finding}
-use Rattle.handle_calls.proofs.Written.{Kept, KeptTable, close-kept, close-table}
+use Rattle.outcome.specs.Findings.{foundOf, both-finding, parts-finding, pick-finding}
+use Rattle.handle_calls.proofs.Written.{close-kept, close-table}
 
 ends : (f v w : Bool) → _≡_ {A = ℕ} (foundOf (f or false) (v or (false or w))) (foundOf f (v or w))
 unfolding _or_
@@ -55,10 +50,6 @@ more-finding b s o n m =
     ∙ ends (s .full) (s .overflow) false
     ∙ ap (λ (z : Bool). foundOf (s .full) (s .overflow or z)) (sym x)
     ∙ sym (parts-finding b (decBlock b .threads) s)
-
-pick-finding : (t : Bool) (n : ℕ) (x y : Served) → finding (x .kernel) ≡ n → finding (y .kernel) ≡ n → finding (pick t x y .kernel) ≡ n
-pick-finding true n x y e f = e
-pick-finding false n x y e f = f
 
 pub duplicate-finding : (b : List ℕ) (r : Registers) → decBlock b .handles .count < 256 → decBlock b .handles .next .0 < 0xFFFF8000
     → finding (duplicateHandle (decBlock b) r .kernel) ≡ finding (withObjects (decBlock b) (resolved (decBlock b) (r .r1) .store))

@@ -1,10 +1,10 @@
 -- A block that holds a state, after a handle more and after a handle less. Assumes nothing.
-use mathlib.Core.Path.{_≡_, refl, sym, ap, _∙_}
+use mathlib.Core.Path.{_≡_, refl, sym, _∙_}
 use mathlib.Core.Bool.{Bool, true, false}
-use mathlib.Core.List.{List, _++_, append-assoc}
+use mathlib.Core.List.{List}
 use Prim.Native.Nat.{ℕ, _+_, _<_}
 use lib.Dec.{leb, eqb}
-use lib.ListN.{length, replicate, length-append}
+use lib.ListN.{length}
 use borrow.Author.Tests.{lt-ltb}
 use Rattle.laws.specs.Logic.{pick}
 use Rattle.codec.specs.Bytes.{over}
@@ -15,12 +15,10 @@ use Rattle.types.specs.declared.object.ObjectStore.{ObjectStore}
 use Rattle.types.specs.declared.object.HandleTable.{HandleTable}
 use Rattle.types.specs.declared.kernel.Kernel.{Kernel}
 use Rattle.block.specs.declared.Head.{Head}
-use Rattle.block.specs.Table.{encEntry, encWaiter, encId}
-use Rattle.block.specs.Thread.{four, encThread}
+use Rattle.block.specs.Table.{encEntry, encWaiter}
+use Rattle.block.specs.Thread.{four}
 use Rattle.block.specs.Slot.{encSlot}
-use Rattle.block.specs.Block.{headWords, encHead, encBlock}
-use Rattle.block.proofs.Row.{length-all}
-use Rattle.block.proofs.Sizes.{length-encHead, length-encThread, length-encSlot}
+use Rattle.block.specs.Block.{headWords}
 use Rattle.sound.specs.View.{slotAt, objectAt}
 use Rattle.object.specs.Held.{held}
 use Rattle.object.specs.Slots.{withSlots}
@@ -28,11 +26,9 @@ use Rattle.object.specs.Store.{addRef, isFree, release, release-if}
 use Rattle.object.specs.declared.handles.Both.{Both}
 use Rattle.object.specs.Handles.{give, close, objectOf, placeOf, takenOut}
 use Rattle.object.proofs.Laws.{add-ref-held}
-use Rattle.thread.specs.Threads.{withThreads}
 use Rattle.svc.specs.Call.{withHandles}
-use Rattle.rows.specs.Over.{over-at}
-use Rattle.rows.specs.Rows.{slotPut, entryPut, entriesPut, waitersPut, headPut}
-use Rattle.rows.specs.Holds.{Holds, put-slot, put-entry, put-entries, put-waiters, put-head}
+use Rattle.rows.specs.Rows.{slotPut, entryPut, headPut}
+use Rattle.rows.specs.Holds.{Holds, put-slot, put-entry, put-slots, put-entries, put-waiters, put-head}
 
 -- ---- a handle more
 module _ (b : List ℕ) (k : Kernel) (g : Holds b k) (o : ObjectId) where
@@ -93,28 +89,9 @@ close-table t s h = go (eqb (objectOf t h) 0)
     go true = record { full = refl; overflow = refl; next = refl }
     go false = record { full = refl; overflow = refl; next = refl }
 
--- every slot anew
-module _ {b : List ℕ} {k : Kernel} (g : Holds b k) where
-  put-slots : (l : List Slot) → length l ≡ 128 → Holds (over b 5248 (encAll encSlot l)) (withThreads k (k .threads) (withSlots (k .objects) l))
-  unfolding encBlock
-  put-slots l n =
-      let H = encHead (headWords k) in
-      let X1 = encAll encThread (k .threads) in
-      let X2 = encAll encSlot (k .objects .slots) in
-      let Q = encAll encEntry (k .handles .entries) ++ (encAll encWaiter (k .objects .waiters) ++ (encAll encId (k .objects .«thread_objects») ++ replicate 3072 0)) in
-      let lp : length (H ++ X1) ≡ 5248 = rw (length-append, length-encHead (headWords k), length-all encThread 160 length-encThread 32 (k .threads) (g .sizes .nt)) in
-      record {
-        same =
-            rw (g .same, ← append-assoc H X1 (X2 ++ Q))
-            (over-at (H ++ X1) X2 (encAll encSlot l) Q 5248 5120 lp (length-all encSlot 40 length-encSlot 128 (k .objects .slots) (g .sizes .ns)) (length-all encSlot 40 length-encSlot 128 l n)
-            ∙ append-assoc H X1 (encAll encSlot l ++ Q));
-        sizes = record { nt = g .sizes .nt; ns = n; ne = g .sizes .ne; nw = g .sizes .nw; ni = g .sizes .ni };
-      }
-
 module _ (b : List ℕ) (k : Kernel) (g : Holds b k) (t : HandleTable) (s : ObjectStore) (p : Kept (k .objects) s) where
   pub closed : (h : Head) → h ≡ headWords k → length (s .slots) ≡ 128 → length (t .entries) ≡ 256 → length (s .waiters) ≡ 64
       → Holds (headPut (over (over (over b 5248 (encAll encSlot (s .slots))) 10368 (encAll encEntry (t .entries))) 12416 (encAll encWaiter (s .waiters))) (record { a = h .a; b = h .b; c = four (s .free) (s .«free_waiter») (t .count) (t .next .0); d = h .d })) (withHandles k t s)
-  unfolding entriesPut waitersPut
   closed h e l m n =
       let d : record { a = h .a; b = h .b; c = four (s .free) (s .«free_waiter») (t .count) (t .next .0); d = h .d } ≡ headWords (withHandles k t s) =
       (λ i. record { a = e i .a; b = e i .b; c = four (s .free) (s .«free_waiter») (t .count) (t .next .0); d = e i .d }) ∙ (λ i. record { a = headWords k .a; b = headWords k .b; c = four (s .free) (s .«free_waiter») (t .count) (t .next .0); d = four (sym (p .process) i .0) 0 0 0 }) in

@@ -42,6 +42,15 @@ unfolding put
 put-far l zero v h = refl
 put-far l (suc i) v h = sym (set-out l i v (omega arith))
 
+-- ---- a record linked, in columns
+pub link-keep : (rs ds ns : List ℕ) (x : ℕ) (u : Ends) (keep : Bool) → keep ≡ true
+    → linksOf rs ds (put ns x (u .head)) (record { free = u .free; head = x }) ≡ link keep x (linksOf rs ds ns u)
+link-keep rs ds ns x u keep e = rw (e, put-next rs ds ns x (u .head))
+
+pub link-free : (rs ds ns : List ℕ) (x : ℕ) (u : Ends) (keep : Bool) → keep ≡ false
+    → linksOf (put rs x 0) (put ds x 0) (put ns x (u .free)) (record { free = x; head = u .head }) ≡ link keep x (linksOf rs ds ns u)
+link-free rs ds ns x u keep e = rw (e, put-freed rs ds ns x (u .free))
+
 -- ---- a walk that unlinks, by the code's cases
 module _ (ts ds ns : List ℕ) (all : Bool) (t h left free : ℕ) where
   pub unlink-nil : h ≡ 0 → linksOf ts ds ns (record { free = free; head = 0 }) ≡ unlinkFrom all (joined ts ds ns) t h left free
@@ -54,19 +63,12 @@ module _ (ts ds ns : List ℕ) (all : Bool) (t h left free : ℕ) where
 
   module _ (e : length ts ≡ length ns) (f : length ds ≡ length ns) (p : left ≢ 0) (q : h ≢ 0) (us vs ws : List ℕ) (u : Ends)
       (r : linksOf us vs ws u ≡ unlinkFrom all (joined ts ds ns) t (at ns h) (left - 1) free) where
-    go-on : link (kept all (at ts h) t) h (linksOf us vs ws u) ≡ unlinkFrom all (joined ts ds ns) t h left free
-    go-on =
+    pub unlink-on : link (kept all (at ts h) t) h (linksOf us vs ws u) ≡ unlinkFrom all (joined ts ds ns) t h left free
+    unlink-on =
         let a : at ns h ≡ waiterAt (joined ts ds ns) h .next = ap (λ l. at l h) (sym (nexts-joined ts ds ns e f)) ∙ at-next (joined ts ds ns) h in
         let b : at ts h ≡ waiterAt (joined ts ds ns) h .thread = ap (λ l. at l h) (sym (threads-joined ts ds ns e f)) ∙ at-thread (joined ts ds ns) h in
         ap (λ (z : Links). link (kept all (at ts h) t) h z) r
         ∙ rw (a, b) (unlink-go (joined ts ds ns) left h p q (λ x. kept all (waiterAt (joined ts ds ns) x .thread) t) free)
-
-    pub unlink-keep : kept all (at ts h) t ≡ true → linksOf us vs (put ws h (u .head)) (record { free = u .free; head = h }) ≡ unlinkFrom all (joined ts ds ns) t h left free
-    unlink-keep n = rw (put-next us vs ws h (u .head)) (rw n at go-on)
-
-    pub unlink-free : kept all (at ts h) t ≡ false
-        → linksOf (put us h 0) (put vs h 0) (put ws h (u .free)) (record { free = h; head = u .head }) ≡ unlinkFrom all (joined ts ds ns) t h left free
-    unlink-free n = rw (put-freed us vs ws h (u .free)) (rw n at go-on)
 
 -- ---- columns joined from left to right
 pub join-more : (ts ds ns : List ℕ) (l : List Waiter) (i : ℕ) → i < length ts → i < length ds → i < length ns → i < length l

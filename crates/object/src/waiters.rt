@@ -16,7 +16,7 @@ ghost use lib.ListN.{length};
 ghost use Rattle.laws.specs.Logic.{pick};
 ghost use Rattle.laws.specs.Count as cells;
 ghost use Rattle.laws.specs.Walk.{walk};
-ghost use Rattle.sound.specs.View.{waiterNexts};
+ghost use Rattle.sound.specs.View.{waiterNexts, waiterThreads, waiterAddresses};
 ghost use Rattle.sound.specs.Records as chains;
 ghost use Rattle.object.specs.Slots.{withObject};
 ghost use Rattle.object.specs.Waiters as def;
@@ -29,7 +29,7 @@ pub struct Links {
     pub head: u32,
 }
 
-fn waiter_at(ws: [Waiter; 64], x: u32) -> Waiter
+pub fn waiter_at(ws: [Waiter; 64], x: u32) -> Waiter
     ensures { λ r. ⌜ r ≡ def.waiterAt ws x ⌝ }
 {
     if x == 0 {
@@ -110,6 +110,39 @@ fn stays(all: bool, x: u32, t: u32) -> bool
     x != t
 }
 
+// The record x goes in front of what is kept, or of the free chain.
+pub fn link_cells(
+    threads: &mut [u32; 64],
+    addresses: &mut [u32; 64],
+    nexts: &mut [u32; 64],
+    keep: bool,
+    x: u32,
+    u: Ends,
+) -> Ends
+    requires { ⌜ length (now threads) ≡ 64 ⌝ }
+    requires { ⌜ length (now addresses) ≡ 64 ⌝ }
+    requires { ⌜ length (now nexts) ≡ 64 ⌝ }
+    ensures { λ r. ⌜ linksOf (now (threads .exit)) (now (addresses .exit)) (now (nexts .exit)) r ≡ def.link keep x (linksOf (now (threads .entry)) (now (addresses .entry)) (now (nexts .entry)) u) ⌝ }
+    ensures { λ _. ⌜ length (now (threads .exit)) ≡ 64 ⌝ }
+    ensures { λ _. ⌜ length (now (addresses .exit)) ≡ 64 ⌝ }
+    ensures { λ _. ⌜ length (now (nexts .exit)) ≡ 64 ⌝ }
+{
+    if keep {
+        put_cell(nexts, x, u.head);
+        return Ends {
+            free: u.free,
+            head: x,
+        };
+    }
+    put_cell(threads, x, 0);
+    put_cell(addresses, x, 0);
+    put_cell(nexts, x, u.free);
+    Ends {
+        free: x,
+        head: u.head,
+    }
+}
+
 // The chain from at without the records of thread t, or without all of them; what goes is free again. The records are
 // lent as columns, so that no step of the walk copies the table.
 fn unlink(
@@ -145,20 +178,7 @@ fn unlink(
     let keep = stays(all, cell(threads, at), t);
     let next = cell(nexts, at);
     let u = unlink(threads, addresses, nexts, all, t, next, left - 1, free);
-    if keep {
-        put_cell(nexts, at, u.head);
-        return Ends {
-            free: u.free,
-            head: at,
-        };
-    }
-    put_cell(threads, at, 0);
-    put_cell(addresses, at, 0);
-    put_cell(nexts, at, u.free);
-    Ends {
-        free: at,
-        head: u.head,
-    }
+    link_cells(threads, addresses, nexts, keep, at, u)
 }
 
 // The records that have these columns.
@@ -200,7 +220,7 @@ pub fn with_head(o: KObject, h: u32) -> KObject
     }
 }
 
-fn is_arbiter(o: KObject) -> bool
+pub fn is_arbiter(o: KObject) -> bool
     ensures { λ r. ⌜ r ≡ def.isArbiter o ⌝ }
 {
     match o {
@@ -333,7 +353,7 @@ fn last_of(nexts: &[u32; 64], prior: u32, at: u32, left: u32) -> u32
     last_of(nexts, at, cell(nexts, at), left - 1)
 }
 
-fn first_of(head: u32, r: u32) -> u32
+pub fn first_of(head: u32, r: u32) -> u32
     ensures { λ x. ⌜ x ≡ pick (eqb head 0) r head ⌝ }
 {
     if head == 0 {
@@ -343,7 +363,7 @@ fn first_of(head: u32, r: u32) -> u32
 }
 
 // The record r hung on that before it.
-fn hang(ws: [Waiter; 64], last: u32, r: u32, w: Waiter) -> [Waiter; 64]
+pub fn hang(ws: [Waiter; 64], last: u32, r: u32, w: Waiter) -> [Waiter; 64]
     ensures { λ l. ⌜ l ≡ def.waiterPut (def.waiterPut ws last (def.withNext (def.waiterAt ws last) r)) r w ⌝ }
 {
     let old = waiter_at(ws, last);
@@ -390,6 +410,38 @@ fn pushed(s: ObjectStore, o: ObjectId, t: u32, a: u32, last: u32) -> ObjectStore
     q
 }
 
+// Whether a chain has a record already, and its last record, 0 if it has none.
+pub struct ChainEnd {
+    pub has: bool,
+    pub last: u32,
+}
+
+// The end of the chain from head, for a record of thread t and address a.
+pub fn chain_end(ws: [Waiter; 64], head: u32, t: u32, a: u32) -> ChainEnd
+    ensures { λ r. ⌜ r .has ≡ chains.has? (waiterThreads ws) (waiterAddresses ws) t a (walk (waiterNexts ws) 64 head) ⌝ }
+    ensures { λ r. ⌜ ((r .has ≡ false) → r .last ≡ def.lastOf (walk (waiterNexts ws) 64 head)) ⌝ }
+{
+    if head == 0 {
+        return ChainEnd {
+            has: false,
+            last: 0,
+        };
+    }
+    let nexts = tally::columns::nexts_of(ws);
+    let threads = tally::columns::threads_of(ws);
+    let addresses = tally::columns::addresses_of(ws);
+    if has_record(&nexts, &threads, &addresses, t, a, head, 64) {
+        return ChainEnd {
+            has: true,
+            last: 0,
+        };
+    }
+    ChainEnd {
+        has: false,
+        last: last_of(&nexts, 0, head, 64),
+    }
+}
+
 // A record more at the end of an arbiter's chain; a thread's second one for one address is not stored.
 pub fn push(s: ObjectStore, o: ObjectId, t: u32, a: u32) -> ObjectStore
     ensures { λ r. ⌜ r ≡ def.push s (o .0) t a ⌝ }
@@ -399,17 +451,10 @@ pub fn push(s: ObjectStore, o: ObjectId, t: u32, a: u32) -> ObjectStore
     if !is_arbiter(object) {
         return s;
     }
-    let head = types::object::head_of(object);
-    let mut last: u32 = 0;
-    if head != 0 {
-        let ws = s.waiters;
-        let nexts = tally::columns::nexts_of(ws);
-        let threads = tally::columns::threads_of(ws);
-        let addresses = tally::columns::addresses_of(ws);
-        if has_record(&nexts, &threads, &addresses, t, a, head, 64) {
-            return s;
-        }
-        last = last_of(&nexts, 0, head, 64);
+    let ws = s.waiters;
+    let e = chain_end(ws, types::object::head_of(object), t, a);
+    if e.has {
+        return s;
     }
-    pushed(s, o, t, a, last)
+    pushed(s, o, t, a, e.last)
 }

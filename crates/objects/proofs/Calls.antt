@@ -1,13 +1,9 @@
 -- A call that opens a handle and goes on from there. v is what it leaves; it finds what opening the handle found. Assumes nothing.
-use mathlib.Core.Path.{_≡_, refl, sym, ap, subst, _∙_}
-use mathlib.Core.Bool.{true}
+use mathlib.Core.Path.{_≡_, sym, ap, subst, _∙_}
 use mathlib.Core.List.{List}
 use mathlib.Core.Logic.{_≢_}
-use Prim.Native.Nat.{ℕ, _<_}
-use native.Mathlib.Omega.{arith}
-use Rattle.types.specs.declared.object.KObject.{KObject}
+use Prim.Native.Nat.{ℕ}
 use Rattle.block.specs.Block.{decBlock}
-use Rattle.sound.specs.Question.{sound?}
 use Rattle.svc.specs.declared.Served.{Served}
 use Rattle.svc.specs.Call.{withObjects, resolved}
 use Rattle.lent.specs.Operations.{finding}

@@ -1,11 +1,11 @@
 -- Opening a handle: nothing made, an object made. Assumes nothing.
 use mathlib.Core.Path.{_≡_, refl, sym, ap, _∙_}
-use mathlib.Core.Bool.{Bool, true, false}
-use mathlib.Core.List.{List, map}
+use mathlib.Core.Bool.{true}
+use mathlib.Core.List.{List}
 use mathlib.Core.Logic.{_≢_, inl, inr}
-use Prim.Native.Nat.{ℕ, _≤_, _<_}
+use Prim.Native.Nat.{ℕ, _≤_}
 use native.Mathlib.Omega.{arith}
-use lib.Dec.{eqb, ltb}
+use lib.Dec.{ltb}
 use lib.ListN.{length, getD, set, length-map, List·getD-map, List·getD-eq-default}
 use lib.Seq.{set-out, getD-set-same}
 use borrow.Author.Tests.{eq-eqb, ne-eqb, lt-ltb, le-ltb}

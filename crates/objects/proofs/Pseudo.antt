@@ -3,11 +3,10 @@ use mathlib.Core.Path.{_≡_, refl, sym, ap, subst, _∙_}
 use mathlib.Core.Bool.{Bool, true, false}
 use mathlib.Core.List.{List}
 use mathlib.Core.Logic.{inl, inr}
-use Prim.Native.Nat.{ℕ, _<_}
+use Prim.Native.Nat.{ℕ}
 use native.Mathlib.Omega.{arith}
 use lib.Dec.{eqb}
 use Rattle.laws.specs.Logic.{pick, lt-cases}
-use Rattle.types.specs.declared.object.KObject.{KObject}
 use Rattle.types.specs.declared.object.KObject.the-variants.{Free, Semaphore}
 use Rattle.types.specs.declared.sync.Semaphore as se
 use Rattle.types.specs.declared.object.ObjectStore.{ObjectStore}
@@ -16,14 +15,13 @@ use Rattle.types.specs.declared.thread.ThreadOption.the-variants.{NoThread, Som
 use Rattle.types.specs.declared.kernel.Kernel.{Kernel}
 use Rattle.block.specs.Block.{decBlock, encBlock}
 use Rattle.sound.specs.View.{slotAt, objectAt}
-use Rattle.sound.specs.Objects.{Ref, refOf, keptAt, KeptOk}
+use Rattle.sound.specs.Objects.{refOf, keptAt, KeptOk}
 use Rattle.sound.specs.Objects.Ref.{ofThread, ofProcess, ofNone}
 use Rattle.sound.specs.Question.{sound?}
 use Rattle.object.specs.declared.kept.Resolved.{Resolved}
 use Rattle.object.specs.Kept.{resolve, ofCurrent, threadObject, processObject}
 use Rattle.svc.specs.Call.{withObjects, resolved}
-use Rattle.lent.specs.Operations.{finding}
-use Rattle.rows.specs.Holds.{Holds, holds}
+use Rattle.rows.specs.Holds.{holds}
 use Rattle.objects.specs.declared.open.Opened.{Opened}
 use Rattle.objects.specs.Open.{Opens}
 use Rattle.objects.proofs.Sound.{opened-sound}

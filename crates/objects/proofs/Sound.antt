@@ -2,13 +2,12 @@
 use mathlib.Core.Path.{_≡_, refl, sym, ap, _∙_}
 use mathlib.Core.Bool.{Bool, true, false}
 use mathlib.Core.List.{List}
-use mathlib.Core.Logic.{inl, inr}
 use Prim.Native.Nat.{ℕ}
 use lib.Dec.{eqb}
 use borrow.Author.Tests.{eqb-true, eqb-false}
 use Rattle.laws.specs.Logic.{_or_}
 use Rattle.types.specs.declared.kernel.Kernel.{Kernel}
-use Rattle.block.specs.Block.{decBlock, encBlock}
+use Rattle.block.specs.Block.{decBlock}
 use Rattle.block.proofs.Fits.{block-back}
 use Rattle.sound.specs.Sound.{Sound}
 use Rattle.sound.specs.Question.{sound?, t-block, encoded-sound}
@@ -16,11 +15,9 @@ use Rattle.soundness.specs.Whole.{sound-parts, parts-sound}
 use Rattle.calling.specs.Resolves.{resolved-parts}
 use Rattle.svc.specs.Call.{withObjects, resolved}
 use Rattle.lent.specs.Operations.{finding, outOfHandles?}
-use Rattle.outcome.specs.Findings.{foundOf, parts-finding}
-use Rattle.rows.specs.Holds.{Holds}
+use Rattle.outcome.specs.Findings.{parts-finding, none-found}
 use Rattle.objects.specs.declared.open.Opened.{Opened}
 use Rattle.objects.specs.Open.{Opens}
-use Rattle.objects.proofs.Found.{none-found}
 
 module _ (b : List ℕ) (s : sound? b ≡ true) (h : ℕ) where
   abbrev q : Kernel

@@ -1,6 +1,5 @@
 -- What opening a handle leaves in the block b, from the state k on; e is the block afterwards. Assumes nothing.
 use mathlib.Core.Path.{_≡_}
-use mathlib.Core.Bool.{Bool}
 use mathlib.Core.List.{List}
 use Prim.Native.Nat.{ℕ}
 use lib.Dec.{eqb}

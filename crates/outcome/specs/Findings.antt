@@ -2,20 +2,38 @@
 use mathlib.Core.Path.{_≡_, refl}
 use mathlib.Core.Bool.{Bool, true, false}
 use mathlib.Core.List.{List}
-use Prim.Native.Nat.{ℕ}
-use Rattle.laws.specs.Logic.{pick, _or_}
+use mathlib.Core.Logic.{inl, inr}
+use Prim.Native.Nat.{ℕ, _+_}
+use native.Mathlib.Omega.{arith}
+use lib.Dec.{ltb, leb}
+use borrow.Author.Tests.{lt-ltb, le-ltb, lt-leb, le-leb}
+use Rattle.laws.specs.Logic.{pick, _or_, lt-cases}
 use Rattle.types.specs.declared.object.ObjectStore.{ObjectStore}
 use Rattle.types.specs.declared.object.HandleTable.{HandleTable}
 use Rattle.types.specs.declared.thread.Thread.{Thread}
-use Rattle.types.specs.declared.kernel.Kernel.{Kernel}
 use Rattle.block.specs.Block.{decBlock}
 use Rattle.thread.specs.Threads.{withThreads}
-use Rattle.svc.specs.Call.{withHandles, withObjects, withOver}
+use Rattle.svc.specs.declared.Served.{Served}
+use Rattle.svc.specs.Call.{withHandles, withOver}
 use Rattle.lent.specs.Operations.{finding, outOfHandles?}
 
 -- question 7 before question 8
 abbrev pub foundOf : Bool → Bool → ℕ
 foundOf full over = pick full 7 (pick over 8 0)
+
+-- nothing found: nothing is too full, and no sum too large
+pub none-found : (f v : Bool) → foundOf f v ≡ 0 → (f ≡ false) × (v ≡ false)
+none-found true v e = absurd (omega (arith, e))
+none-found false true e = absurd (omega (arith, e))
+none-found false false e = (refl, refl)
+
+-- the next handle past the last that is allowed
+pub next-over : (n : ℕ) → leb 0xFFFF8000 n or ltb 0xFFFF8000 (pick (ltb n 0xFFFF8000) (n + 1) n) ≡ leb 0xFFFF8000 n
+unfolding _or_
+next-over n = elim (lt-cases n 0xFFFF8000) [
+  | inl h ↦ rw (lt-leb 0xFFFF8000 n h, lt-ltb n 0xFFFF8000 h, le-ltb 0xFFFF8000 (n + 1) (omega arith))
+  | inr h ↦ rw (le-leb 0xFFFF8000 n h)
+]
 
 -- nothing anew
 pub same-finding : (b : List ℕ) → finding (decBlock b) ≡ foundOf false (outOfHandles? (decBlock b))
@@ -57,3 +75,8 @@ pub both-finding : (b : List ℕ) (t : HandleTable) (s : ObjectStore)
     → finding (withHandles (decBlock b) t s) ≡ foundOf (s .full or t .full) (s .overflow or (t .overflow or outOfHandles? (withHandles (decBlock b) t s)))
 unfolding finding decBlock outOfHandles?
 both-finding b t s = both (s .full) (t .full) (s .overflow) (t .overflow) (outOfHandles? (withHandles (decBlock b) t s))
+
+-- one of two ends of a call
+pub pick-finding : (t : Bool) (n : ℕ) (x y : Served) → finding (x .kernel) ≡ n → finding (y .kernel) ≡ n → finding (pick t x y .kernel) ≡ n
+pick-finding true n x y e f = e
+pick-finding false n x y e f = f

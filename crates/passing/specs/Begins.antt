@@ -1,13 +1,12 @@
 -- A current thread with no list that begins to wait on live objects leaves a sound state: each object of the list gains a name.
 use mathlib.Core.Path.{_≡_, refl, _∙_}
-use mathlib.Core.Bool.{Bool, false}
+use mathlib.Core.Bool.{Bool}
 use mathlib.Core.List.{List, [], _∷_}
-use Prim.Native.Nat.{ℕ, zero, suc, _+_, _^_, _≤_, _<_}
+use Prim.Native.Nat.{ℕ, zero, suc, _^_, _≤_, _<_}
 use native.Mathlib.Omega.{arith}
-use lib.ListN.{length, set, take, drop, length-map}
-use borrow.Author.Tests.{eqb-false}
+use lib.ListN.{length, set, take, length-map}
 use Rattle.laws.specs.All.{All}
-use Rattle.laws.specs.Count.{count, at}
+use Rattle.laws.specs.Count.{count}
 use Rattle.units.specs.declared.ObjectId.{ObjectId}
 use Rattle.types.specs.declared.thread.TickOption.{TickOption}
 use Rattle.types.specs.declared.thread.TickOption.the-variants.{NoTick, SomeTick}
@@ -16,16 +15,15 @@ use Rattle.types.specs.declared.thread.ThreadOption.the-variants.{NoThread, Som
 use Rattle.types.specs.declared.thread.Thread.{Thread}
 use Rattle.types.specs.declared.object.ObjectStore.{ObjectStore}
 use Rattle.types.specs.declared.kernel.Kernel.{Kernel}
-use Rattle.types.specs.Object.{kindNumber}
 use Rattle.types.specs.Thread.{tickValue}
 use Rattle.block.proofs.Fits.{IdFits}
-use Rattle.sound.specs.View.{kinds, ids, objectAt, threadAt, at-slots}
-use Rattle.sound.specs.Threads.{Zeros, Places}
-use Rattle.sound.specs.Objects.{names, keptNames, Live, ContentOk}
+use Rattle.sound.specs.View.{ids, objectAt, threadAt}
+use Rattle.sound.specs.Threads.{Places}
+use Rattle.sound.specs.Objects.{names, Live, ContentOk}
 use Rattle.sound.specs.Sound.{Sound}
 use Rattle.object.specs.Store.{isFree, addRef, addRefs}
-use Rattle.soundness.specs.Slots.{pick-both, kindAt}
-use Rattle.soundness.specs.Objects.{ObOk, at-pos, Known}
+use Rattle.soundness.specs.Slots.{pick-both}
+use Rattle.soundness.specs.Objects.{Known}
 use Rattle.soundness.specs.Names.{count-length}
 use Rattle.soundness.specs.Waits.{begin-wait-ok}
 use Rattle.soundness.specs.Same.{addRefs-same}
@@ -51,33 +49,6 @@ pub record Waitable (k : Kernel) (l : List ObjectId) (n : ℕ) : Type 0 where
   pub known : Known (k .objects) (names (k .handles) (k .threads)) (take n (ids l))
   pub size : length l ≡ 8
 
--- a live object is one, and has a name
-module _ (s : ObjectStore) (f : ℕ → ℕ) (h : ObOk s f) (o : ℕ) (live : isFree (objectAt s o) ≡ false) where
-  live-kind : 0 < at (kinds (s .slots)) o
-  live-kind = let m = eqb-false (kindNumber (objectAt s o)) 0 live in omega (arith, at-slots kindAt (s .slots) o refl)
-
-  pub live-slot : (0 < o) × (o ≤ 128)
-  live-slot = let c = at-pos (kinds (s .slots)) o live-kind in (c .0, omega (arith, length-map (s .slots) kindAt, h .ns))
-
-  pub live-named : 0 < f o + keptNames s o
-  live-named = let c = at-pos (kinds (s .slots)) o live-kind in omega (arith, live-kind, h .counts .live o c, h .counts .counted o (c .0))
-
--- n of a list are live, and the rest are zeros
-module _ (k : Kernel) (p : Parts k) where
-  abbrev LiveOnes : List ℕ → Type 0
-  LiveOnes os = All (λ o. isFree (objectAt (k .objects) o) ≡ false) os
-
-  live-places : (n : ℕ) (l : List ℕ) → n ≤ length l → LiveOnes (take n l) → Zeros (drop n l) → Places n l
-  live-places zero l m a z = z
-  live-places (suc n) [] m a z = absurd (omega arith)
-  live-places (suc n) (o ∷ os) m a z =
-      let c = live-slot (k .objects) (names (k .handles) (k .threads)) (p .ob) o (a .0) in (c .0, (c .1, live-places n os (omega arith) (a .1) z))
-
-  live-known : (os : List ℕ) → LiveOnes os → Known (k .objects) (names (k .handles) (k .threads)) os
-  live-known [] a = tt
-  live-known (o ∷ os) a =
-      (live-slot (k .objects) (names (k .handles) (k .threads)) (p .ob) o (a .0) .0, (live-named (k .objects) (names (k .handles) (k .threads)) (p .ob) o (a .0), live-known os (a .1)))
-
 -- ---- widths
 places-fit : (n : ℕ) (l : List ObjectId) → Places n (ids l) → All IdFits l
 places-fit zero [] z = tt
@@ -95,7 +66,7 @@ wake-fits NoTick tick = z8
 wake-fits (SomeTick d) tick = saturating-fits tick (d .0)
 
 -- ---- the finding is left alone
-addRef-overflow : (s : ObjectStore) (o : ℕ) → addRef s o .overflow ≡ s .overflow
+pub addRef-overflow : (s : ObjectStore) (o : ℕ) → addRef s o .overflow ≡ s .overflow
 unfolding addRef
 addRef-overflow s o = pick-both (λ (y : ObjectStore). y .overflow ≡ s .overflow) (isFree (objectAt s o)) s _ refl refl
 

@@ -5,7 +5,7 @@ use mathlib.Core.List.{List, [], _∷_, map}
 use Prim.Native.Nat.{ℕ, suc, _+_, _-_, _/_, _^_, _<_}
 use native.Mathlib.Omega.{arith}
 use lib.Dec.{leb, ltb}
-use Rattle.laws.specs.Logic.{pick, _and_, _or_, or-false}
+use Rattle.laws.specs.Logic.{pick, _and_, _or_}
 use Rattle.types.specs.declared.thread.TickOption.{TickOption}
 use Rattle.types.specs.declared.thread.TickOption.the-variants.{NoTick, SomeTick}
 use Rattle.types.specs.declared.thread.Thread as th
@@ -100,11 +100,7 @@ module _ (n : ℕ) (ts : List th.Thread) where
   unfolding catchUpTimers
   catch-store f s ws tick e h = catch-as (timerDue tick (s .slots)) f s ws tick e h
 
--- ---- the finding sticks
-pub fire-sticks : (s : ObjectStore) (tick : ℕ) → fireTimers s tick .overflow ≡ false → s .overflow ≡ false
-unfolding fireTimers
-fire-sticks s tick e = or-false (s .overflow) (anyOver tick (s .slots)) e .0
-
+-- ---- the finding is left alone
 pub clear-overflow : (s : ObjectStore) → clearPulses s .overflow ≡ s .overflow
 unfolding clearPulses
 clear-overflow s = refl

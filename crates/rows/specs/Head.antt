@@ -4,7 +4,7 @@ use mathlib.Core.Bool.{true}
 use mathlib.Core.List.{List, _++_, append-assoc, append-nil}
 use Prim.Native.Nat.{ℕ}
 use lib.ListN.{getD, replicate}
-use Rattle.codec.specs.Layout.{encAs, decAs, encAll}
+use Rattle.codec.specs.Layout.{encAs, decAs}
 use Rattle.codec.proofs.Back.{decAs-enc}
 use Rattle.types.specs.declared.kernel.Kernel.{Kernel}
 use Rattle.block.specs.declared.Head.{Head}

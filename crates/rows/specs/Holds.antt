@@ -1,15 +1,14 @@
 -- What a block holds, after one record of it, a table or its head is written anew. Assumes nothing.
-use mathlib.Core.Path.{_≡_, refl, sym, ap, subst, _∙_}
+use mathlib.Core.Path.{_≡_, refl, sym, ap, _∙_}
 use mathlib.Core.Bool.{Bool, true, false}
 use mathlib.Core.List.{List, [], _++_, append-assoc}
 use mathlib.Core.Logic.{_⊎_, inl, inr}
-use Prim.Native.Nat.{ℕ, zero, suc, _+_, _-_, _*_, _<_}
+use Prim.Native.Nat.{ℕ, zero, suc, _+_, _-_, _*_}
 use native.Mathlib.Omega.{arith}
-use lib.Dec.{ltb}
 use lib.ListN.{length, set, replicate, length-append, length-set}
 use lib.Seq.{set-out}
 use borrow.Author.Tests.{lt-ltb, le-ltb}
-use Rattle.laws.specs.Logic.{pick, lt-cases, false-true}
+use Rattle.laws.specs.Logic.{lt-cases}
 use Rattle.codec.specs.Bytes.{over}
 use Rattle.codec.specs.Layout.{encAll}
 use Rattle.units.specs.declared.ObjectId.{ObjectId}
@@ -27,12 +26,12 @@ use Rattle.block.specs.Block.{headWords, encHead, encBlock, decBlock}
 use Rattle.block.proofs.Row.{length-all}
 use Rattle.block.proofs.Sizes.{length-encHead, length-encThread, length-encSlot, length-encEntry, length-encWaiter, length-encId}
 use Rattle.block.proofs.Fits.{StateFits}
-use Rattle.sound.specs.Question.{sound?, SoundBlock, t-block}
+use Rattle.sound.specs.Question.{sound?, t-block}
 use Rattle.tally.specs.Place.{isSlot, slotIndex, slot-some, slot-past, index-slot}
 use Rattle.object.specs.Slots.{withSlots, withKept}
 use Rattle.object.specs.Slots as object
 use Rattle.thread.specs.Threads.{withThreads}
-use Rattle.rows.specs.Rows.{threadPut, slotPut, entryPut, entriesPut, waitersPut, keptPut, headPut}
+use Rattle.rows.specs.Rows.{threadPut, slotPut, entryPut, keptPut, headPut}
 use Rattle.rows.specs.Over.{over-at, replace}
 
 pub record Sizes (k : Kernel) : Type 0 where
@@ -200,8 +199,21 @@ module _ {b : List ℕ} {k : Kernel} (g : Holds b k) where
   }
 
   -- ---- a whole table
-  pub put-entries : (es : List HandleEntry) → length es ≡ 256 → Holds (entriesPut b es) (withTable k (withEntries (k .handles) es))
-  unfolding entriesPut encBlock
+  pub put-slots : (ss : List Slot) → length ss ≡ 128 → Holds (over b 5248 (encAll encSlot ss)) (withThreads k (k .threads) (withSlots (k .objects) ss))
+  unfolding encBlock
+  put-slots ss n =
+      let P = H k ++ X1 k in
+      let Q = X3 k ++ (X4 k ++ (X5 k ++ Z)) in
+      record {
+        same =
+            rw (g .same, ← append-assoc (H k) (X1 k) (X2 k ++ Q))
+            (over-at P (X2 k) (encAll encSlot ss) Q 5248 5120 (len-1 k (g .sizes)) (length-all encSlot 40 length-encSlot 128 (k .objects .slots) (g .sizes .ns)) (length-all encSlot 40 length-encSlot 128 ss n)
+            ∙ append-assoc (H k) (X1 k) (encAll encSlot ss ++ Q));
+        sizes = record { nt = g .sizes .nt; ns = n; ne = g .sizes .ne; nw = g .sizes .nw; ni = g .sizes .ni };
+      }
+
+  pub put-entries : (es : List HandleEntry) → length es ≡ 256 → Holds (over b 10368 (encAll encEntry es)) (withTable k (withEntries (k .handles) es))
+  unfolding encBlock
   put-entries es n =
       let P = (H k ++ X1 k) ++ X2 k in
       let Q = X4 k ++ (X5 k ++ Z) in
@@ -214,8 +226,8 @@ module _ {b : List ℕ} {k : Kernel} (g : Holds b k) where
         sizes = record { nt = g .sizes .nt; ns = g .sizes .ns; ne = n; nw = g .sizes .nw; ni = g .sizes .ni };
       }
 
-  pub put-waiters : (ws : List Waiter) → length ws ≡ 64 → Holds (waitersPut b ws) (withThreads k (k .threads) (withWaiters (k .objects) ws))
-  unfolding waitersPut encBlock
+  pub put-waiters : (ws : List Waiter) → length ws ≡ 64 → Holds (over b 12416 (encAll encWaiter ws)) (withThreads k (k .threads) (withWaiters (k .objects) ws))
+  unfolding encBlock
   put-waiters ws n =
       let P = ((H k ++ X1 k) ++ X2 k) ++ X3 k in
       let Q = X5 k ++ Z in
@@ -226,6 +238,19 @@ module _ {b : List ℕ} {k : Kernel} (g : Holds b k) where
             ∙ over-at P (X4 k) (encAll encWaiter ws) Q 12416 768 (len-3 k (g .sizes)) (length-all encWaiter 12 length-encWaiter 64 (k .objects .waiters) (g .sizes .nw)) (length-all encWaiter 12 length-encWaiter 64 ws n)
             ∙ sym (apart-3 k (encAll encWaiter ws ++ Q)));
         sizes = record { nt = g .sizes .nt; ns = g .sizes .ns; ne = g .sizes .ne; nw = n; ni = g .sizes .ni };
+      }
+
+  pub put-ids : (is : List ObjectId) → length is ≡ 32 → Holds (over b 13184 (encAll encId is)) (withThreads k (k .threads) (withKept (k .objects) is))
+  unfolding encBlock
+  put-ids is n =
+      let P = (((H k ++ X1 k) ++ X2 k) ++ X3 k) ++ X4 k in
+      record {
+        same =
+            rw (g .same)
+            (ap (λ (t : List ℕ). over t 13184 (encAll encId is)) (apart-4 k (X5 k ++ Z))
+            ∙ over-at P (X5 k) (encAll encId is) Z 13184 128 (len-4 k (g .sizes)) (length-all encId 4 length-encId 32 (k .objects .«thread_objects») (g .sizes .ni)) (length-all encId 4 length-encId 32 is n)
+            ∙ sym (apart-4 k (encAll encId is ++ Z)));
+        sizes = record { nt = g .sizes .nt; ns = g .sizes .ns; ne = g .sizes .ne; nw = g .sizes .nw; ni = n };
       }
 
   -- ---- the head, where the tables are as they were

@@ -1,5 +1,6 @@
 -- One record of a block anew, and what the block holds then.
 pub mod Rows
 pub mod Over
+pub mod Sizes
 pub mod Holds
 pub mod Head

@@ -4,14 +4,12 @@ use Prim.Native.Nat.{ℕ, _+_, _*_}
 use lib.Dec.{ltb}
 use Rattle.laws.specs.Logic.{pick}
 use Rattle.codec.specs.Bytes.{over}
-use Rattle.codec.specs.Layout.{encAll}
 use Rattle.units.specs.declared.ObjectId.{ObjectId}
 use Rattle.types.specs.declared.thread.Thread.{Thread}
 use Rattle.types.specs.declared.object.Slot.{Slot}
 use Rattle.types.specs.declared.object.HandleEntry.{HandleEntry}
-use Rattle.types.specs.declared.object.Waiter.{Waiter}
 use Rattle.block.specs.declared.Head.{Head}
-use Rattle.block.specs.Table.{encEntry, encWaiter, encId}
+use Rattle.block.specs.Table.{encEntry, encId}
 use Rattle.block.specs.Thread.{encThread}
 use Rattle.block.specs.Slot.{encSlot}
 use Rattle.block.specs.Block.{encHead}
@@ -26,13 +24,6 @@ slotPut b o x = pick (isSlot o) (over b (5248 + slotIndex o * 40) (encSlot x)) b
 
 unfoldable pub entryPut : List ℕ → ℕ → HandleEntry → List ℕ
 entryPut b i x = pick (ltb i 256) (over b (10368 + i * 8) (encEntry x)) b
-
--- a whole table
-unfoldable pub entriesPut : List ℕ → List HandleEntry → List ℕ
-entriesPut b es = over b 10368 (encAll encEntry es)
-
-unfoldable pub waitersPut : List ℕ → List Waiter → List ℕ
-waitersPut b ws = over b 12416 (encAll encWaiter ws)
 
 unfoldable pub keptPut : List ℕ → ℕ → ObjectId → List ℕ
 keptPut b i x = pick (ltb i 32) (over b (13184 + i * 4) (encId x)) b

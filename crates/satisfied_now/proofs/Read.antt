@@ -10,7 +10,8 @@ use Rattle.sound.specs.View.{noSlot, slotAt}
 use Rattle.tally.specs.Place.{slotIndex}
 use Rattle.pass.specs.Signal.{isSignaled}
 use Rattle.wait.specs.Looks.{namedIndex, looked, look-is}
-use Rattle.due.proofs.Looked.{slotIn, threadIn, slot-is, thread-is, size-slots, size-threads}
+use Rattle.rows.specs.Sizes.{size-threads, size-slots}
+use Rattle.due.proofs.Looked.{slotIn, threadIn, slot-is, thread-is}
 
 module _ (b : List ℕ) where
   pub slot-read : {i j : ℕ} {x : Slot} → i < 128 → i ≡ j → x ≡ slotIn b i → x ≡ getD (decBlock b .objects .slots) j noSlot

@@ -205,12 +205,6 @@ unfolding unlink
 unlink-fits keep ws free [] a w f = record { waiters = w; free = f; head = z4 }
 unlink-fits keep ws free (x ∷ xs) a w f = link-fits (keep x) x (unlink keep ws free xs) (a .0) (unlink-fits keep ws free xs (a .1) w f)
 
-last-small : (xs : List ℕ) → All Word xs → Word (lastOf xs)
-unfolding lastOf
-last-small [] a = z4
-last-small (x ∷ []) a = a .0
-last-small (x ∷ y ∷ ys) a = last-small (y ∷ ys) (a .1)
-
 first-small : (xs : List ℕ) (r : ℕ) → All Word xs → Word r → Word (firstOf xs r)
 first-small [] r a w = w
 first-small (x ∷ xs) r a w = a .0

@@ -44,18 +44,6 @@ rising-out (suc n) low [] next k r l = absurd r
 rising-out (suc n) low (e ∷ es) next zero r l = absurd (omega arith)
 rising-out (suc n) low (e ∷ es) next (suc k) r l = rising-out n (suc (e .handle .0)) es next k (r .1 .1 .1 .1) (omega arith)
 
--- what an open entry names is an object number
-pub rising-in : (n low : ℕ) (es : List HandleEntry) (next k : ℕ) → Rising n low es next → k < n → (0 < getD (handled es) k 0) × (getD (handled es) k 0 ≤ 128)
-rising-in zero low es next k r l = absurd (omega arith)
-rising-in (suc n) low [] next k r l = absurd r
-rising-in (suc n) low (e ∷ es) next zero r l = (r .1 .1 .0, r .1 .1 .1 .0)
-rising-in (suc n) low (e ∷ es) next (suc k) r l = rising-in n (suc (e .handle .0)) es next k (r .1 .1 .1 .1) (omega arith)
-
-pub rising-length : (n low : ℕ) (es : List HandleEntry) (next : ℕ) → Rising n low es next → n ≤ length es
-rising-length zero low es next r = omega arith
-rising-length (suc n) low [] next r = absurd r
-rising-length (suc n) low (e ∷ es) next r = omega (arith, rising-length n (suc (e .handle .0)) es next (r .1 .1 .1 .1))
-
 -- ---- give
 rising-give : (n low : ℕ) (es : List HandleEntry) (next : ℕ) (e : HandleEntry) → Rising n low es next → n < length es → e .handle .0 ≡ next → 0 < e .object .0 → e .object .0 ≤ 128
     → Rising (suc n) low (set es n e) (suc next)

@@ -278,15 +278,6 @@ module _ (s : ObjectStore) (o : ℕ) (f : ℕ → ℕ) (h : ObOk s (λ i. ind o 
   pub release-ok : ObOk (release s o) f
   release-ok = rw release-live (release-ok-if (leb 2 (slotAt (s .slots) o .refcount)) refl)
 
-  -- an object that keeps a name keeps what it holds
-  release-stay-if : (t : Bool) → leb 2 (slotAt (s .slots) o .refcount) ≡ t → (i : ℕ) → 0 < f i + keptNames s i → objectAt (release-if t s o) i ≡ objectAt s i
-  unfolding release-if
-  release-stay-if true e i p = slot-f (λ y. y .object) (s .slots) o _ i refl
-  release-stay-if false e i p = ap (λ (y : Slot). y .object) (slot-other (s .slots) o _ i (rel-other e i p))
-
-  pub release-stay : (i : ℕ) → 0 < f i + keptNames s i → objectAt (release s o) i ≡ objectAt s i
-  release-stay i p = rw release-live (release-stay-if (leb 2 (slotAt (s .slots) o .refcount)) refl i p)
-
 -- what a release leaves alone
 pub release-rest : (t : Bool) (s : ObjectStore) (o : ℕ)
     → (release-if t s o .«thread_objects» ≡ s .«thread_objects») × (release-if t s o .«process_object» ≡ s .«process_object») × (release-if t s o .full ≡ s .full) × (release-if t s o .overflow ≡ s .overflow)
@@ -329,27 +320,10 @@ unfolding releases
 releases-overflow s [] = refl
 releases-overflow s (o ∷ os) = releases-overflow (release s o) os ∙ release-overflow s o
 
-pub releases-kept : (s : ObjectStore) (os : List ℕ) (i : ℕ) → keptNames (releases s os) i ≡ keptNames s i
-unfolding releases
-releases-kept s [] i = refl
-releases-kept s (o ∷ os) i = releases-kept (release s o) os i ∙ release-kept s o i
-
-pub releases-stay : (s : ObjectStore) (os : List ℕ) (f : ℕ → ℕ) → Pos os → ObOk s (λ i. count i os + f i) → (i : ℕ) → 0 < f i + keptNames s i → objectAt (releases s os) i ≡ objectAt s i
-unfolding releases count
-releases-stay s [] f p h i n = refl
-releases-stay s (o ∷ os) f p h i n =
-    let h′ = ok-as {s = s} (λ i. ind o i + (count i os + f i)) (λ i z. omega arith) h in
-    releases-stay (release s o) os f (p .1) (release-ok s o (λ i. count i os + f i) h′ (p .0)) i (omega (arith, release-kept s o i))
-    ∙ release-stay s o (λ i. count i os + f i) h′ (p .0) i (omega arith)
-
 -- ---- a list of objects, each with a name
 abbrev pub Known : ObjectStore → (ℕ → ℕ) → List ℕ → Type 0
 Known s f [] = Unit {0}
 Known s f (o ∷ os) = (0 < o) × ((0 < f o + keptNames s o) × Known s f os)
-
-pub known-pos : (s : ObjectStore) (f : ℕ → ℕ) (os : List ℕ) → Known s f os → Pos os
-known-pos s f [] k = tt
-known-pos s f (o ∷ os) k = (k .0, known-pos s f os (k .1 .1))
 
 -- more names: still known
 pub known-more : (s s′ : ObjectStore) (f f′ : ℕ → ℕ) (os : List ℕ) → ((i : ℕ) → 0 < i → f i + keptNames s i ≤ f′ i + keptNames s′ i) → Known s f os → Known s′ f′ os
@@ -359,11 +333,6 @@ known-more s s′ f f′ (o ∷ os) m k = (k .0, (omega (arith, m o (k .0), k .1
 pub addRef-kept : (s : ObjectStore) (o i : ℕ) → keptNames (addRef s o) i ≡ keptNames s i
 unfolding addRef keptNames
 addRef-kept s o i = pick-both (λ (y : ObjectStore). keptNames y i ≡ keptNames s i) (isFree (objectAt s o)) s _ refl refl
-
-pub addRefs-kept : (s : ObjectStore) (os : List ℕ) (i : ℕ) → keptNames (addRefs s os) i ≡ keptNames s i
-unfolding addRefs
-addRefs-kept s [] i = refl
-addRefs-kept s (o ∷ os) i = addRefs-kept (addRef s o) os i ∙ addRef-kept s o i
 
 pub addRefs-ok : (s : ObjectStore) (os : List ℕ) (f : ℕ → ℕ) → Known s f os → ((o : ℕ) → 0 < o → count o os + (f o + keptNames s o) ≤ 4294967295) → ObOk s f → ObOk (addRefs s os) (λ i. count i os + f i)
 unfolding addRefs count

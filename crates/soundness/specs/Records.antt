@@ -7,8 +7,8 @@ use Prim.Native.Nat.{ℕ, zero, suc, _+_, _≤_, _<_}
 use native.Mathlib.Omega.{arith}
 use lib.Dec.{eqb, leb}
 use borrow.Author.Tests.{eqb-false, ne-eqb}
-use lib.ListN.{length, length-map, List·getD-eq-default}
-use Rattle.laws.specs.Logic.{pick, _and_, _or_, or-false, false-true, lt-cases}
+use lib.ListN.{length, length-map}
+use Rattle.laws.specs.Logic.{pick, _and_, _or_, or-false, false-true}
 use Rattle.laws.specs.Count.{ind, ind-cases, ind-same, count, at, Cell, at-put-same, at-put-other}
 use Rattle.laws.specs.Walk.{walk, walk-zero}
 use Rattle.types.specs.declared.object.KObject.{KObject}
@@ -17,7 +17,7 @@ use Rattle.types.specs.declared.object.Slot.{Slot}
 use Rattle.types.specs.declared.object.Waiter.{Waiter}
 use Rattle.types.specs.declared.object.ObjectStore.{ObjectStore}
 use Rattle.types.specs.Object.{kindNumber, nextOf, headOf}
-use Rattle.sound.specs.View.{heads, waiterNexts, waiterThreads, waiterAddresses, noSlot, slotAt, objectAt}
+use Rattle.sound.specs.View.{heads, waiterNexts, waiterThreads, waiterAddresses, slotAt, objectAt}
 use Rattle.sound.specs.Objects.{keptNames, refOf}
 use Rattle.sound.specs.Records.{chainOf, has?, ChainOk, RecordsOk}
 use Rattle.object.specs.Slots.{withObject}
@@ -254,24 +254,6 @@ drop-none (suc n) o t s f z l h q i w =
       | inr e ↦ retain-none-other s o t f z (omega arith) h j (e .0) (q j (omega (arith, e .0)))
     ]) i (omega arith)
 
-chain-out : (s : ObjectStore) (o : ℕ) → (0 < o → length (s .slots) < o) → chainOf s o ≡ []
-unfolding slotAt
-chain-out s zero l = walk-zero (waiterNexts (s .waiters)) 64
-chain-out s (suc i) l =
-    ap (λ (x : Slot). walk (waiterNexts (s .waiters)) 64 (headAt x)) (List·getD-eq-default (s .slots) noSlot (omega (arith, l (omega arith)))) ∙ walk-zero (waiterNexts (s .waiters)) 64
-
-none-out : (t : ℕ) (s : ObjectStore) (o : ℕ) → (0 < o → length (s .slots) < o) → NoneOf t s o
-unfolding count
-none-out t s o l x z e = omega (arith, ap (count x) (chain-out s o l))
-
--- after it no chain has a record of the thread
-pub dropThread-gone : (n t : ℕ) (s : ObjectStore) (f : ℕ → ℕ) → n ≡ 128 → ObOk s f → (i : ℕ) → NoneOf t (dropThread n 1 t s) i
-dropThread-gone n t s f q h i =
-    elim (lt-cases i 129) [
-      | inl l ↦ drop-none n 1 t s f (omega arith) (omega arith) h (λ j b. none-out t s j (λ w. absurd (omega arith))) i (omega arith)
-      | inr l ↦ none-out t (dropThread n 1 t s) i (λ w. omega (arith, dropThread-ok n 1 t s f (omega arith) (omega arith) h .ns))
-    ]
-
 -- ---- push
 -- what is no slot is no arbiter
 arbiter-in : (l : List Slot) (o : ℕ) → isArbiter (slotAt l o .object) ≡ true → (0 < o) × (o ≤ length l)
@@ -410,23 +392,3 @@ pub push-chains : (n : ℕ) (s : ObjectStore) (o t a : ℕ) (f : ℕ → ℕ) �
 unfolding push
 push-chains n s o t a f l h g c = push-chains-if (isArbiter (objectAt s o)) (has? (waiterThreads (s .waiters)) (waiterAddresses (s .waiters)) t a (chainOf s o)) n s o t a f refl refl l h g c
 
--- ---- what they leave of objects: all that a new head leaves
-module _ {A : Type 0} (g : KObject → A) (e : (x : KObject) (h : ℕ) → g (withHead x h) ≡ g x) where
-  pub retain-stay : (keep : ℕ → Bool) (s : ObjectStore) (o i : ℕ) → g (objectAt (retain keep s o) i) ≡ g (objectAt s i)
-  unfolding retain
-  retain-stay keep s o i = slot-f (λ y. g (y .object)) (s .slots) o _ i (e (objectAt s o) _)
-
-  pub dropThread-stay : (n o t : ℕ) (s : ObjectStore) (i : ℕ) → g (objectAt (dropThread n o t s) i) ≡ g (objectAt s i)
-  unfolding dropThread
-  dropThread-stay zero o t s i = refl
-  dropThread-stay (suc n) o t s i = dropThread-stay n (suc o) t (retain (ofOthers s t) s o) i ∙ retain-stay (ofOthers s t) s o i
-
--- and of kept objects, all
-pub retain-kept : (keep : ℕ → Bool) (s : ObjectStore) (o i : ℕ) → keptNames (retain keep s o) i ≡ keptNames s i
-unfolding retain keptNames
-retain-kept keep s o i = refl
-
-pub dropThread-kept : (n o t : ℕ) (s : ObjectStore) (i : ℕ) → keptNames (dropThread n o t s) i ≡ keptNames s i
-unfolding dropThread
-dropThread-kept zero o t s i = refl
-dropThread-kept (suc n) o t s i = dropThread-kept n (suc o) t (retain (ofOthers s t) s o) i ∙ retain-kept (ofOthers s t) s o i

@@ -4,7 +4,7 @@ use mathlib.Core.Bool.{Bool, true, false}
 use mathlib.Core.List.{List}
 use Prim.Native.Nat.{ℕ}
 use lib.Dec.{eqb}
-use Rattle.laws.specs.Logic.{pick, _or_, or-false, or-yes}
+use Rattle.laws.specs.Logic.{_or_, or-false}
 use Rattle.types.specs.declared.object.KObject.{KObject}
 use Rattle.types.specs.declared.object.KObject.the-variants.{Free, Thread, Event, Mutex, Semaphore, Timer, AddressArbiter, Process, ResourceLimit}
 use Rattle.types.specs.declared.object.Slot.{Slot}
@@ -18,14 +18,12 @@ use Rattle.object.specs.Slots.{content, withObject, withSlots}
 use Rattle.object.specs.Slots as object
 use Rattle.pass.specs.Signal as pass
 use Rattle.svc.specs.declared.Registers.{Registers}
-use Rattle.svc.specs.declared.Served.{Served}
 use Rattle.svc.specs.Call.{withObjects, withOver, resolved}
 use Rattle.svc.specs.Sync.{releaseMutexAs, releaseMutex, sumOver, releasedSemaphore, releaseSemaphoreAs, releaseSemaphore, signalEvent, clearEvent}
 use Rattle.lent.specs.Operations.{finding, outOfHandles?}
-use Rattle.objects.proofs.Found.{none-found}
 use Rattle.outcome.specs.declared.Outcome.{Outcome}
 use Rattle.outcome.specs.Outcome.{outcome, left, refused, left-0}
-use Rattle.outcome.specs.Findings.{foundOf, parts-finding, over-finding}
+use Rattle.outcome.specs.Findings.{foundOf, none-found, parts-finding, over-finding, pick-finding}
 use Rattle.objects.specs.declared.open.Opened.{Opened}
 use Rattle.objects.specs.Open.{Opens}
 use Rattle.objects.proofs.Calls.{refused-call}
@@ -70,17 +68,13 @@ pub releaseMutex-finding : (k : Kernel) (r : Registers) → finding (releaseMute
 unfolding releaseMutex
 releaseMutex-finding k r = mutex-finding (objectAt (resolved k (r .r0) .store) (resolved k (r .r0) .object .0)) (withObjects k (resolved k (r .r0) .store)) (resolved k (r .r0) .object .0)
 
-pick-finding : (t : Bool) (k : Kernel) (x y : Served) → finding (x .kernel) ≡ finding k → finding (y .kernel) ≡ finding k → finding (pick t x y .kernel) ≡ finding k
-pick-finding true k x y e f = e
-pick-finding false k x y e f = f
-
 pub signalEvent-finding : (k : Kernel) (r : Registers) → finding (signalEvent k r .kernel) ≡ finding (withObjects k (resolved k (r .r0) .store))
 unfolding signalEvent
-signalEvent-finding k r = pick-finding (eqb (resolved k (r .r0) .object .0) 0) (withObjects k (resolved k (r .r0) .store)) _ _ refl (signal-finding (withObjects k (resolved k (r .r0) .store)) (resolved k (r .r0) .object .0))
+signalEvent-finding k r = pick-finding (eqb (resolved k (r .r0) .object .0) 0) (finding (withObjects k (resolved k (r .r0) .store))) _ _ refl (signal-finding (withObjects k (resolved k (r .r0) .store)) (resolved k (r .r0) .object .0))
 
 pub clearEvent-finding : (k : Kernel) (r : Registers) → finding (clearEvent k r .kernel) ≡ finding (withObjects k (resolved k (r .r0) .store))
 unfolding clearEvent
-clearEvent-finding k r = pick-finding (eqb (resolved k (r .r0) .object .0) 0) (withObjects k (resolved k (r .r0) .store)) _ _ refl (clear-finding (withObjects k (resolved k (r .r0) .store)) (resolved k (r .r0) .object .0))
+clearEvent-finding k r = pick-finding (eqb (resolved k (r .r0) .object .0) 0) (finding (withObjects k (resolved k (r .r0) .store))) _ _ refl (clear-finding (withObjects k (resolved k (r .r0) .store)) (resolved k (r .r0) .object .0))
 
 -- ---- a sum of a semaphore
 module _ (k : Kernel) (z : finding k ≡ 0) (o : ℕ) (s : se.Semaphore) (n : ℕ) where

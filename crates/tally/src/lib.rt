@@ -8,7 +8,6 @@ ghost use mathlib.Core.Path.{_≡_};
 ghost use Prim.Native.Nat.{_+_};
 ghost use lib.ListN.{length};
 ghost use Rattle.laws.specs.Tally.{bump, tally};
-ghost use Rattle.sound.specs.Tls.{held};
 ghost use Rattle.sound.specs.View.{ids};
 ghost use Rattle.tally.specs.Lists.{slotOf, nameOf, names};
 
@@ -73,16 +72,4 @@ pub fn tally_slot(m: &mut [u32; 129], t: Thread)
         return;
     }
     bump_at(m, t.tls);
-}
-
-// One more for the TLS slot of each live thread.
-pub fn tally_tls(m: &mut [u32; 129], ts: [Thread; 32])
-    ensures { λ _. ⌜ now (m .exit) ≡ tally 129 (now (m .entry)) (held ts) ⌝ }
-    ensures { λ _. ⌜ length ts ≡ 32 ⌝ }
-{
-    let mut i: usize = 0;
-    while i < 32 {
-        tally_slot(m, ts[i]);
-        i += 1;
-    }
 }

@@ -5,20 +5,13 @@ use mathlib.Core.List.{List, [], _∷_, map}
 use Prim.Native.Nat.{ℕ, zero, suc, _+_, _-_, _≤_, _<_}
 use native.Mathlib.Omega.{arith}
 use lib.Dec.{eqb}
-use lib.ListN.{length, getD, set, List·getD-eq-default}
+use lib.ListN.{length, getD, set}
 use Rattle.laws.specs.Logic.{pick}
 use Rattle.laws.specs.Count.{count}
-use Rattle.units.specs.declared.ObjectId.{ObjectId}
-use Rattle.types.specs.declared.thread.Thread.{Thread}
-use Rattle.types.specs.declared.object.Slot.{Slot}
-use Rattle.sound.specs.View.{threadAt, noSlot, noThread}
-use Rattle.object.specs.Store.{releases}
-use Rattle.types.specs.declared.object.ObjectStore.{ObjectStore}
 use Rattle.types.specs.declared.kernel.Kernel.{Kernel}
 use Rattle.sound.specs.Tls.{held}
-use Rattle.thread.specs.Threads.{least, freeFrom, tlsSlot, releaseWaits}
-use Rattle.tally.specs.Place.{slotIndex}
-use Rattle.thread.specs.Marks.{least-le, freeMarked, ended?, idAt, endedIn}
+use Rattle.thread.specs.Threads.{least, freeFrom, tlsSlot}
+use Rattle.thread.specs.Marks.{least-le, freeMarked}
 
 pub free-step : (m : List ℕ) (n i : ℕ) → i < n → freeMarked m (n - i) i ≡ pick (eqb (getD m i 0) 0) i (freeMarked m (n - (i + 1)) (i + 1))
 unfolding freeMarked
@@ -27,16 +20,6 @@ free-step m n i h = let e : n - i ≡ suc (n - (i + 1)) = omega arith in rw e
 pub free-end : (m : List ℕ) (n i : ℕ) → n ≤ i → freeMarked m (n - i) i ≡ i
 unfolding freeMarked
 free-end m n i h = let e : n - i ≡ 0 = omega arith in rw e
-
-module _ (ts : List Thread) (kept : List ObjectId) (slots : List Slot) where
-  pub ended-step : (n i : ℕ) → i < n
-      → endedIn ts kept slots (n - i) i ≡ pick (ended? (threadAt ts i) (idAt kept i) (getD slots (slotIndex (idAt kept i)) noSlot)) i (endedIn ts kept slots (n - (i + 1)) (i + 1))
-  unfolding endedIn
-  ended-step n i h = let e : n - i ≡ suc (n - (i + 1)) = omega arith in rw e
-
-  pub ended-end : (n i : ℕ) → n ≤ i → endedIn ts kept slots (n - i) i ≡ i
-  unfolding endedIn
-  ended-end n i h = let e : n - i ≡ 0 = omega arith in rw e
 
 -- the first i cells of a list changed by f
 unfoldable pub mapTo : {A : Type 0} → (A → A) → ℕ → List A → List A
@@ -75,13 +58,6 @@ free-le l (suc n) s = pick-le (eqb (count s l) 0) s (freeFrom l n (s + 1)) (s + 
 pub tls-le : (k : Kernel) → tlsSlot k ≤ 32
 unfolding tlsSlot
 tls-le k = omega (arith, free-le (held (k .threads)) (least (k .«next_tls_slot») 32) 0, least-le (k .«next_tls_slot») 32)
-
--- a number past the places has no list
-pub waits-far : (s : ObjectStore) (ts : List Thread) (t : ℕ) → length ts ≤ t → releaseWaits s ts t ≡ s
-unfolding releases
-waits-far s ts t h =
-    let e : threadAt ts t ≡ noThread = List·getD-eq-default ts noThread h in
-    rw e
 
 -- a cell that is changed twice
 pub set-again : {A : Type 0} (f : A → A) (d : A) (l : List A) (i : ℕ) (a : A) → set l i (f a) ≡ set (set l i a) i (f (getD (set l i a) i d))

@@ -1,10 +1,8 @@
-// The TLS slot and the place that a new thread gets (`allocate_tls`, `ended_thread`).
-use types::object::Slot;
-use types::thread::Thread;
+// The TLS slot that a new thread gets (`allocate_tls`).
 ghost use mathlib.Core.Path.{_≡_};
 ghost use Prim.Native.Nat.{_+_, _-_, _<_, _≤_};
 ghost use Rattle.thread.specs.Threads.{least};
-ghost use Rattle.thread.specs.Marks.{freeMarked, unnamed?, ended?};
+ghost use Rattle.thread.specs.Marks.{freeMarked};
 
 pub fn least_of(a: u32, b: u32) -> u32
     ensures { λ r. ⌜ r ≡ least a b ⌝ }
@@ -28,27 +26,4 @@ pub fn free_slot(m: [u32; 129], n: u32) -> u32
         i += 1;
     }
     i
-}
-
-// No handle or wait names the kept object x, whose slot is s.
-fn is_unnamed(x: u32, s: Slot) -> bool
-    ensures { λ r. ⌜ r ≡ unnamed? x s ⌝ }
-{
-    if x == 0 {
-        return true;
-    }
-    if 128 < x {
-        return true;
-    }
-    s.refcount <= 1
-}
-
-pub fn is_ended(t: Thread, x: u32, s: Slot) -> bool
-    ensures { λ r. ⌜ r ≡ ended? t x s ⌝ }
-{
-    let status = t.status;
-    if !types::thread::is_dead(status) {
-        return false;
-    }
-    is_unnamed(x, s)
 }

@@ -3,11 +3,11 @@ use mathlib.Core.Path.{_≡_, refl, sym, ap, _∙_}
 use mathlib.Core.Bool.{Bool, true, false}
 use mathlib.Core.List.{List, [], _∷_}
 use mathlib.Core.Logic.{inl, inr}
-use Prim.Native.Nat.{ℕ, zero, suc, _≤_, _<_}
+use Prim.Native.Nat.{ℕ, zero, suc, _<_}
 use native.Mathlib.Omega.{arith}
 use lib.Dec.{eqb, leb, ltb}
 use lib.ListN.{getD, set}
-use borrow.Author.Tests.{eqb-true, eqb-false, eq-eqb, ne-eqb, leb-true, lt-leb, ltb-true, ltb-false}
+use borrow.Author.Tests.{eqb-true, eqb-false, leb-true, lt-leb, ltb-false}
 use Rattle.laws.specs.Logic.{pick, lt-cases, or-no}
 use Rattle.units.specs.declared.ObjectId.{ObjectId}
 use Rattle.types.specs.declared.thread.Thread as th

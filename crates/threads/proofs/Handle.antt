@@ -4,7 +4,7 @@ use mathlib.Core.List.{List}
 use Prim.Native.Nat.{ℕ, zero, suc, _+_, _<_}
 use native.Mathlib.Omega.{arith}
 use lib.Dec.{ltb}
-use lib.ListN.{length, getD, set, length-map}
+use lib.ListN.{getD, set, length-map}
 use lib.Seq.{set-set, getD-set-same}
 use borrow.Author.Tests.{eq-eqb, lt-ltb}
 use Rattle.laws.specs.Logic.{pick}

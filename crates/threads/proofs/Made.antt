@@ -1,59 +1,38 @@
 -- What is found when a guest makes a thread, and what the call leaves. Assumes nothing.
-use mathlib.Core.Path.{_≡_, refl, sym, ap, _∙_}
+use mathlib.Core.Path.{_≡_, sym, ap, _∙_}
 use mathlib.Core.Bool.{Bool, true, false}
 use mathlib.Core.List.{List}
-use mathlib.Core.Logic.{inl, inr}
 use Prim.Native.Nat.{ℕ, _+_, _<_}
-use native.Mathlib.Omega.{arith}
 use lib.Dec.{eqb, leb, ltb}
-use borrow.Author.Tests.{lt-ltb, le-ltb, lt-leb, le-leb, leb-false}
-use Rattle.laws.specs.Logic.{pick, _or_, or-false, lt-cases}
+use borrow.Author.Tests.{leb-false}
+use Rattle.laws.specs.Logic.{pick, _or_, or-false}
 use Rattle.types.specs.declared.object.ObjectStore.{ObjectStore}
 use Rattle.types.specs.declared.kernel.Kernel.{Kernel}
 use Rattle.block.specs.Block.{encBlock, decBlock}
 use Rattle.block.proofs.Fits.{block-back}
-use Rattle.sound.specs.View.{objectAt}
 use Rattle.sound.specs.Objects.{keptAt}
 use Rattle.sound.specs.Sound.{Sound}
 use Rattle.sound.specs.Question.{sound?, t-block, encoded-sound}
-use Rattle.object.specs.Store.{isFree, insert, addRef}
+use Rattle.object.specs.Store.{insert, addRef}
 use Rattle.object.specs.Handles.{give, create}
 use Rattle.object.specs.Kept.{threadObject}
-use Rattle.soundness.specs.Slots.{pick-both}
 use Rattle.soundness.specs.Fine.{addRef-full}
 use Rattle.soundness.specs.Fits.{Word}
 use Rattle.soundness.specs.Objects.{free-pos}
 use Rattle.soundness.specs.Creates.{createThread-sound}
 use Rattle.thread.specs.Threads.{endedThread}
 use Rattle.thread.specs.Threads as thread
+use Rattle.passing.specs.Begins.{addRef-overflow}
 use Rattle.svc.specs.declared.Registers.{Registers}
 use Rattle.svc.specs.Threads.{threadHandle, createThread}
 use Rattle.lent.specs.Operations.{finding, outOfHandles?}
 use Rattle.rows.specs.Holds.{Holds}
 use Rattle.outcome.specs.Outcome.{given, outcome, left, outcome-0, left-0}
-use Rattle.outcome.specs.Findings.{foundOf}
+use Rattle.outcome.specs.Findings.{foundOf, none-found, next-over}
 use Rattle.spawn.proofs.Made.{forget-full, forget-overflow}
 use Rattle.threads.specs.Made.{madeStore, foundMade}
 use Rattle.threads.proofs.Forgotten.{made-kept}
 use Rattle.threads.proofs.Handle.{threadObject-made}
-
--- nothing found: nothing is too full, and no sum too large
-pub none-found : (f v : Bool) → foundOf f v ≡ 0 → (f ≡ false) × (v ≡ false)
-none-found true v e = absurd (omega (arith, e))
-none-found false true e = absurd (omega (arith, e))
-none-found false false e = (refl, refl)
-
--- the next handle past the last that is allowed
-next-over : (n : ℕ) → leb 0xFFFF8000 n or ltb 0xFFFF8000 (pick (ltb n 0xFFFF8000) (n + 1) n) ≡ leb 0xFFFF8000 n
-unfolding _or_
-next-over n = elim (lt-cases n 0xFFFF8000) [
-  | inl h ↦ rw (lt-leb 0xFFFF8000 n h, lt-ltb n 0xFFFF8000 h, le-ltb 0xFFFF8000 (n + 1) (omega arith))
-  | inr h ↦ rw (le-leb 0xFFFF8000 n h)
-]
-
-addRef-overflow : (s : ObjectStore) (o : ℕ) → addRef s o .overflow ≡ s .overflow
-unfolding addRef
-addRef-overflow s o = pick-both (λ (y : ObjectStore). y .overflow ≡ s .overflow) (isFree (objectAt s o)) s _ refl refl
 
 -- the object made, of a store of which nothing was found
 object-full : (s : ObjectStore) (t o : ℕ) → keptAt s t ≡ 0 → s .full ≡ false → addRef (threadObject s t) o .full ≡ eqb (s .free) 0

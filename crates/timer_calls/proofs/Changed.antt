@@ -30,7 +30,7 @@ use Rattle.outcome.specs.Outcome.{accepted, answered}
 use Rattle.rows.specs.Rows.{slotPut}
 use Rattle.rows.specs.Holds.{holds, put-slot}
 use Rattle.timer_calls.specs.Named.{setNamed, changeNamed}
-use Rattle.timer_calls.proofs.Found.{none-found}
+use Rattle.timer_calls.proofs.Found.{nothing-found}
 
 module _ (b : List ℕ) (s : sound? b ≡ true) where
   abbrev k : Kernel
@@ -78,15 +78,15 @@ module _ (b : List ℕ) (n : outOfHandles? (decBlock b) ≡ false) where
 
   set-found : (y : KObject) (s : ObjectStore) (o a c tick : ℕ) → s .full ≡ false → s .overflow ≡ false → finding (setTimerAs y (withObjects (decBlock b) s) o a c tick .kernel) ≡ 0
   unfolding content
-  set-found (Free m) s o a c tick f v = none-found b n _ s f v
-  set-found (Thread t) s o a c tick f v = none-found b n _ s f v
-  set-found (Event e) s o a c tick f v = none-found b n _ s f v
-  set-found (Mutex m) s o a c tick f v = none-found b n _ s f v
-  set-found (Semaphore x) s o a c tick f v = none-found b n _ s f v
-  set-found (Timer t) s o a c tick f v = none-found b n (decBlock b .threads) (content s o (Timer (setTo t a c tick))) f v
-  set-found (AddressArbiter x) s o a c tick f v = none-found b n _ s f v
-  set-found Process s o a c tick f v = none-found b n _ s f v
-  set-found ResourceLimit s o a c tick f v = none-found b n _ s f v
+  set-found (Free m) s o a c tick f v = nothing-found b n _ s f v
+  set-found (Thread t) s o a c tick f v = nothing-found b n _ s f v
+  set-found (Event e) s o a c tick f v = nothing-found b n _ s f v
+  set-found (Mutex m) s o a c tick f v = nothing-found b n _ s f v
+  set-found (Semaphore x) s o a c tick f v = nothing-found b n _ s f v
+  set-found (Timer t) s o a c tick f v = nothing-found b n (decBlock b .threads) (content s o (Timer (setTo t a c tick))) f v
+  set-found (AddressArbiter x) s o a c tick f v = nothing-found b n _ s f v
+  set-found Process s o a c tick f v = nothing-found b n _ s f v
+  set-found ResourceLimit s o a c tick f v = nothing-found b n _ s f v
 
   module _ (h : ℕ) (p : pseudo h ≡ false) where
     pub full-named : resolved (decBlock b) h .store .full ≡ false
@@ -97,7 +97,7 @@ module _ (b : List ℕ) (n : outOfHandles? (decBlock b) ≡ false) where
 
     pub change-finding : (f : KObject → KObject) → finding (changeNamed f (decBlock b) h .kernel) ≡ 0
     unfolding content
-    change-finding f = none-found b n (decBlock b .threads) (content (resolved (decBlock b) h .store) (resolved (decBlock b) h .object .0) (f (objectAt (resolved (decBlock b) h .store) (resolved (decBlock b) h .object .0)))) full-named over-named
+    change-finding f = nothing-found b n (decBlock b .threads) (content (resolved (decBlock b) h .store) (resolved (decBlock b) h .object .0) (f (objectAt (resolved (decBlock b) h .store) (resolved (decBlock b) h .object .0)))) full-named over-named
 
   pub set-finding : (r : Registers) (tick : ℕ) → pseudo (r .r0) ≡ false → finding (setNamed (decBlock b) r tick .kernel) ≡ 0
   set-finding r tick p =

@@ -34,9 +34,9 @@ module _ (b : List ℕ) (tick : ℕ) where
   all-caught e n s h q = record { size = n; sound = s; same = λ z. false-true (sym z); state = λ z. q; handles = λ z. ap outOfHandles? q ∙ h }
 
 -- the state of the block e with other threads and another store, in which nothing is found
-pub none-found : (e : List ℕ) → outOfHandles? (decBlock e) ≡ false → (ts : List Thread) (s : ObjectStore) → s .full ≡ false → s .overflow ≡ false → finding (withThreads (decBlock e) ts s) ≡ 0
+pub nothing-found : (e : List ℕ) → outOfHandles? (decBlock e) ≡ false → (ts : List Thread) (s : ObjectStore) → s .full ≡ false → s .overflow ≡ false → finding (withThreads (decBlock e) ts s) ≡ 0
 unfolding _or_
-none-found e h ts s f v = parts-finding e ts s ∙ (λ i. foundOf (f i) (v i or h i))
+nothing-found e h ts s f v = parts-finding e ts s ∙ (λ i. foundOf (f i) (v i or h i))
 
 -- what the call leaves then: v in terms of the state that is caught up with, w in terms of that before
 pub leaves : (b : List ℕ) (o : Outcome) (x : List ℕ) (v w : Served) → w ≡ v → finding (v .kernel) ≡ 0 → o ≡ accepted v → x ≡ encBlock (v .kernel) → (o ≡ outcome w) × (x ≡ left w b)

@@ -1,22 +1,17 @@
 -- The slots anew in the block, after every object of a list is taken. Assumes nothing.
 use mathlib.Core.Path.{_≡_, sym, ap, _∙_}
 use mathlib.Core.Bool.{Bool, true, false}
-use mathlib.Core.List.{List, _++_, append-assoc}
+use mathlib.Core.List.{List}
 use Prim.Native.Nat.{ℕ}
 use native.Mathlib.Omega.{arith}
-use lib.ListN.{length, replicate, length-append}
+use lib.ListN.{length}
 use Rattle.laws.specs.Logic.{_or_}
 use Rattle.codec.specs.Bytes.{over}
 use Rattle.codec.specs.Layout.{encAll}
-use Rattle.types.specs.declared.object.Slot.{Slot}
 use Rattle.types.specs.declared.object.ObjectStore.{ObjectStore}
 use Rattle.types.specs.declared.kernel.Kernel.{Kernel}
-use Rattle.block.specs.Table.{encEntry, encWaiter, encId}
-use Rattle.block.specs.Thread.{encThread}
 use Rattle.block.specs.Slot.{encSlot}
-use Rattle.block.specs.Block.{headWords, encHead, encBlock, decBlock}
-use Rattle.block.proofs.Row.{length-all}
-use Rattle.block.proofs.Sizes.{length-encHead, length-encThread, length-encSlot}
+use Rattle.block.specs.Block.{encBlock, decBlock}
 use Rattle.sound.specs.Question.{sound?}
 use Rattle.object.specs.Slots.{withSlots}
 use Rattle.pass.specs.Signal.{withOverflow, acquires}
@@ -24,30 +19,10 @@ use Rattle.svc.specs.Call.{gives, withObjects}
 use Rattle.lent.specs.Operations.{finding, outOfHandles?}
 use Rattle.outcome.specs.Outcome.{refused, given, outcome, left, outcome-0, outcome-found, left-0, left-found}
 use Rattle.outcome.specs.Findings.{foundOf, parts-finding}
-use Rattle.rows.specs.Holds.{Holds, holds}
-use Rattle.rows.specs.Over.{over-at}
+use Rattle.rows.specs.Holds.{holds, put-slots}
 use Rattle.timer_calls.proofs.Changed.{down}
 use Rattle.wait_calls.proofs.Counts.{acquires-slots}
 use Rattle.wait_calls.proofs.Fits.{all-found}
-
-module _ (b : List ℕ) (k : Kernel) (g : Holds b k) where
-  -- what stands before the slots, and after them
-  abbrev before : List ℕ
-  before = encHead (headWords k) ++ encAll encThread (k .threads)
-
-  abbrev after : List ℕ
-  after = encAll encEntry (k .handles .entries) ++ (encAll encWaiter (k .objects .waiters) ++ (encAll encId (k .objects .«thread_objects») ++ replicate 3072 0))
-
-  size-before : length before ≡ 5248
-  size-before = rw (length-append, length-encHead (headWords k), length-all encThread 160 length-encThread 32 (k .threads) (g .sizes .nt))
-
-  pub put-slots : (l : List Slot) → length l ≡ 128 → over b 5248 (encAll encSlot l) ≡ encBlock (withObjects k (withSlots (k .objects) l))
-  unfolding encBlock
-  put-slots l n =
-      rw (g .same, ← append-assoc (encHead (headWords k)) (encAll encThread (k .threads)) (encAll encSlot (k .objects .slots) ++ after))
-      (over-at before (encAll encSlot (k .objects .slots)) (encAll encSlot l) after 5248 5120 size-before
-      (length-all encSlot 40 length-encSlot 128 (k .objects .slots) (g .sizes .ns)) (length-all encSlot 40 length-encSlot 128 l n)
-      ∙ append-assoc (encHead (headWords k)) (encAll encThread (k .threads)) (encAll encSlot l ++ after))
 
 module _ (b : List ℕ) (s : sound? b ≡ true) (n : outOfHandles? (decBlock b) ≡ false) (os : List ℕ) (w i : ℕ) (q : ObjectStore) (e : q ≡ acquires (decBlock b .objects) os w) where
   abbrev k : Kernel
@@ -74,7 +49,7 @@ module _ (b : List ℕ) (s : sound? b ≡ true) (n : outOfHandles? (decBlock b) 
       let f = all-found b n os w o in
       let p : withSlots (k .objects) (all .slots) ≡ all = ap (λ (z : Bool). withOverflow (withSlots (k .objects) (all .slots)) z) (down b n .1 ∙ sym o) ∙ sym (acquires-slots os (k .objects) w) in (
         sym (outcome-0 (gives (withObjects k all) i) f),
-        put-slots b k (holds b s) (q .slots) h
+        put-slots (holds b s) (q .slots) h .same
             ∙ ap (λ (z : ObjectStore). encBlock (withObjects k (withSlots (k .objects) (z .slots)))) e
             ∙ ap (λ (z : ObjectStore). encBlock (withObjects k z)) p ∙ sym (left-0 (gives (withObjects k all) i) b f),
       )

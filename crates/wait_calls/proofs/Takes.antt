@@ -17,7 +17,7 @@ use Rattle.lent.specs.Operations.{finding, outOfHandles?}
 use Rattle.outcome.specs.Outcome.{left, left-0, left-found}
 use Rattle.outcome.specs.Findings.{foundOf, parts-finding}
 use Rattle.rows.specs.Rows.{slotPut}
-use Rattle.timer_calls.proofs.Found.{none-found}
+use Rattle.timer_calls.proofs.Found.{nothing-found}
 use Rattle.timer_calls.proofs.Changed.{changed, down}
 
 module _ (b : List ℕ) (s : sound? b ≡ true) (n : outOfHandles? (decBlock b) ≡ false) (o w : ℕ) (x : Slot) (e : x ≡ slotAt (decBlock b .objects .slots) o) where
@@ -51,5 +51,5 @@ module _ (b : List ℕ) (s : sound? b ≡ true) (n : outOfHandles? (decBlock b) 
 
   pub taken-fits : (y : Slot) → y ≡ withObject x (acquired (x .object) w) → false or acquireOver (x .object) ≡ false → (0 ≡ finding after) × (slotPut b o y ≡ left (done after) b)
   taken-fits y q v =
-      let f : finding after ≡ 0 = none-found b n (k .threads) (acquire (k .objects) o w) full-is (over-is ∙ v) in
+      let f : finding after ≡ 0 = nothing-found b n (k .threads) (acquire (k .objects) o w) full-is (over-is ∙ v) in
       (sym f, ap (slotPut b o) q ∙ changed b s o x e (acquired (x .object) w) ∙ ap encBlock (same-state v) ∙ sym (left-0 (done after) b f))

@@ -10,7 +10,6 @@ use Rattle.block.specs.Block.{decBlock, encBlock}
 use Rattle.svc.specs.Dispatch.{runs?}
 use Rattle.svc.specs.Collect as svc
 use Rattle.lent.specs.Lent.{Lent, lent, Back, back}
-use Rattle.lent.specs.Operations.{finding}
 use Rattle.lent.specs.Guest.{collectBytes}
 use Rattle.lent.specs.Guest as guest
 use Rattle.lent.proofs.Cases.{change-1, change-2, change-own, change-found, change-0}
@@ -19,15 +18,6 @@ use Rattle.collect.proofs.Found.{collect-finding}
 use borrow.Author.Needs.{needs}
 use Rattle.collect.proofs.operate.Statement.{statement}
 use Rattle.collect.proofs.operate.Tie as tie
-use Rattle.collect.proofs.operate.Reads as reads
-use Rattle.collect.proofs.operate.Lts as lts
-use Rattle.collect.proofs.put_collected.Reads as put-collected-reads
-use Rattle.collect.proofs.results.collect.Reads as collect-reads
-use Rattle.collect.proofs.results.collected_result.Reads as collected-result-reads
-use Rattle.collect.proofs.results.collected_syscall.Reads as collected-syscall-reads
-use Rattle.lent.proofs.questions.block_ok.Reads as block-ok-reads
-use Rattle.outcome.proofs.out_of_handles.Reads as out-of-handles-reads
-use Rattle.table.proofs.questions.runs.Reads as runs-reads
 
 abbrev refused : Kernel → ℕ
 refused = λ k. pick (runs? k) 0 4

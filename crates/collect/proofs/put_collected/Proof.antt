@@ -8,13 +8,6 @@ use Rattle.block.proofs.Sizes.{length-two}
 use borrow.Author.Needs.{needs}
 use Rattle.collect.proofs.put_collected.Statement.{statement}
 use Rattle.collect.proofs.put_collected.Tie as tie
-use Rattle.collect.proofs.put_collected.Reads as reads
-use Rattle.collect.proofs.put_collected.Lts as lts
-use Rattle.codec.proofs.put32.Reads as put32-reads
-use Rattle.codec.proofs.put_two.Reads as put-two-reads
-use Rattle.types.proofs.thread.result_index.Reads as result-index-reads
-use Rattle.types.proofs.thread.result_number.Reads as result-number-reads
-use Rattle.types.proofs.thread.syscall_number.Reads as syscall-number-reads
 
 -- src/lib.rt:21:9
 result-number-requires : tie.Need-result-number-requires

@@ -1,6 +1,6 @@
-use mathlib.Core.Path.{_≡_, refl, ap, sym, _∙_}
+use mathlib.Core.Path.{refl, ap, sym, _∙_}
 use mathlib.Core.List.{List, []}
-use Prim.Native.Nat.{ℕ, _*_, _<_}
+use Prim.Native.Nat.{ℕ, _*_}
 use borrow.Author.Tests.{eq-eqb, ne-eqb, not-true, not-false}
 use Rattle.laws.specs.Logic.{and-no, and-yes, true-and, pick-yes, pick-no}
 use Rattle.codec.specs.Bytes.{bytes, over}
@@ -11,20 +11,12 @@ use Rattle.block.specs.Context.{encContext}
 use Rattle.thread.specs.Thread.{newContext}
 use Rattle.thread.specs.Threads.{createThread, endedThread}
 use Rattle.lent.specs.Lent.{Lent, lent, Back, back}
-use Rattle.lent.specs.Operations.{finding, rowMade}
+use Rattle.lent.specs.Operations.{rowMade}
 use Rattle.lent.specs.Operations as operation
 use Rattle.lent.proofs.Cases.{change-1, change-2, change-found, change-0, made-place}
 use borrow.Author.Needs.{needs}
 use Rattle.create_thread.proofs.operate.Statement.{statement}
 use Rattle.create_thread.proofs.operate.Tie as tie
-use Rattle.create_thread.proofs.operate.Reads as reads
-use Rattle.create_thread.proofs.operate.Lts as lts
-use Rattle.codec.proofs.get32.Reads as get32-reads
-use Rattle.create_thread.proofs.put_made.Reads as put-made-reads
-use Rattle.lent.proofs.questions.block_ok.Reads as block-ok-reads
-use Rattle.spawn.proofs.create_thread.Reads as create-thread-reads
-use Rattle.vacant.proofs.ended_thread.Reads as ended-thread-reads
-use Rattle.vacant.proofs.tls_slot.Reads as tls-slot-reads
 
 abbrev work : ℕ → ℕ → ℕ → ℕ → Kernel → Kernel
 work entry stack priority processor = λ k. createThread k entry stack priority processor

@@ -8,11 +8,6 @@ use Prim.Native.Nat.{_*_}
 use borrow.Author.Needs.{needs}
 use Rattle.create_thread.proofs.put_made.Statement.{statement}
 use Rattle.create_thread.proofs.put_made.Tie as tie
-use Rattle.create_thread.proofs.put_made.Reads as reads
-use Rattle.create_thread.proofs.put_made.Lts as lts
-use Rattle.block.proofs.context.put_row.Reads as put-row-reads
-use Rattle.codec.proofs.put32.Reads as put32-reads
-use Rattle.thread.proofs.thread.new_context.Reads as new-context-reads
 
 -- src/lib.rt:30:9
 new-context-requires : tie.Need-new-context-requires

@@ -9,7 +9,8 @@ use Rattle.types.specs.declared.thread.Thread.{Thread}
 use Rattle.block.specs.Block.{decBlock}
 use Rattle.sound.specs.View.{noThread}
 use Rattle.signal.specs.Marks.{syncList, syncLists}
-use Rattle.due.proofs.Looked.{thread-is, size-threads}
+use Rattle.rows.specs.Sizes.{size-threads}
+use Rattle.due.proofs.Looked.{thread-is}
 use borrow.Author.Needs.{needs}
 use Rattle.due.proofs.mark_lists.Statement.{statement}
 use Rattle.due.proofs.mark_lists.Tie as tie

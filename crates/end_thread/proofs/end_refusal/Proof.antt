@@ -1,4 +1,4 @@
-use mathlib.Core.Path.{_≡_, sym, ap, subst, _∙_}
+use mathlib.Core.Path.{sym, ap, subst, _∙_}
 use Prim.Native.Nat.{_≤_, _<_}
 use borrow.Author.Tests.{lt-ltb, le-ltb}
 use Rattle.laws.specs.Logic.{pick-yes, pick-no}
@@ -11,11 +11,6 @@ use Rattle.end_thread.proofs.Place.{far-dead}
 use borrow.Author.Needs.{needs}
 use Rattle.end_thread.proofs.end_refusal.Statement.{statement}
 use Rattle.end_thread.proofs.end_refusal.Tie as tie
-use Rattle.end_thread.proofs.end_refusal.Reads as reads
-use Rattle.end_thread.proofs.end_refusal.Lts as lts
-use Rattle.codec.proofs.get32.Reads as get32-reads
-use Rattle.rows.proofs.read.thread_at.Reads as thread-at-reads
-use Rattle.types.proofs.thread.is_dead.Reads as is-dead-reads
 
 -- src/lib.rt:16:8
 get32-requires : tie.Need-get32-requires

@@ -13,11 +13,6 @@ use Rattle.end_thread.proofs.Place.{refusal-place}
 use borrow.Author.Needs.{needs}
 use Rattle.end_thread.proofs.operate.Statement.{statement}
 use Rattle.end_thread.proofs.operate.Tie as tie
-use Rattle.end_thread.proofs.operate.Reads as reads
-use Rattle.end_thread.proofs.operate.Lts as lts
-use Rattle.end_thread.proofs.end_refusal.Reads as end-refusal-reads
-use Rattle.ending.proofs.end_thread.Reads as end-thread-reads
-use Rattle.lent.proofs.questions.block_ok.Reads as block-ok-reads
 
 -- src/lib.rt:35:9
 returns : tie.Need-returns

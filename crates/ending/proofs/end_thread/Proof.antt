@@ -6,11 +6,6 @@ use Rattle.ending.proofs.Ended.{end-finding}
 use borrow.Author.Needs.{needs}
 use Rattle.ending.proofs.end_thread.Statement.{statement}
 use Rattle.ending.proofs.end_thread.Tie as tie
-use Rattle.ending.proofs.end_thread.Reads as reads
-use Rattle.ending.proofs.end_thread.Lts as lts
-use Rattle.ending.proofs.put_ended.Reads as put-ended-reads
-use Rattle.outcome.proofs.found_of.Reads as found-of-reads
-use Rattle.outcome.proofs.out_of_handles.Reads as out-of-handles-reads
 
 -- src/lib.rt:78:42
 out-of-handles-requires : tie.Need-out-of-handles-requires

@@ -1,11 +1,6 @@
 use borrow.Author.Needs.{needs}
 use Rattle.ending.proofs.let_go.Statement.{statement}
 use Rattle.ending.proofs.let_go.Tie as tie
-use Rattle.ending.proofs.let_go.Reads as reads
-use Rattle.ending.proofs.let_go.Lts as lts
-use Rattle.block.proofs.parts.get_store.Reads as get-store-reads
-use Rattle.object.proofs.store.release_list.Reads as release-list-reads
-use Rattle.thread.proofs.end.disown.Reads as disown-reads
 
 -- src/lib.rt:35:33
 get-store-requires : tie.Need-get-store-requires

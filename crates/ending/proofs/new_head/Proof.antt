@@ -1,10 +1,6 @@
 use borrow.Author.Needs.{needs}
 use Rattle.ending.proofs.new_head.Statement.{statement}
 use Rattle.ending.proofs.new_head.Tie as tie
-use Rattle.ending.proofs.new_head.Reads as reads
-use Rattle.ending.proofs.new_head.Lts as lts
-use Rattle.types.proofs.thread.thread_flag.Reads as thread-flag-reads
-use Rattle.types.proofs.thread.thread_value.Reads as thread-value-reads
 
 -- src/lib.rt:46:9
 thread-flag-requires : tie.Need-thread-flag-requires

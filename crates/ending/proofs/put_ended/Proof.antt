@@ -1,24 +1,11 @@
-use mathlib.Core.Path.{sym, ap, _∙_}
+use mathlib.Core.Path.{_∙_}
 use Rattle.rows.specs.Head.{sound-head}
-use Rattle.rows.specs.Rows.{threadPut, headPut}
 use Rattle.rows.specs.Holds.{holds}
 use Rattle.block.specs.Block.{decBlock}
 use Rattle.ending.proofs.Ended.{ended-in}
 use borrow.Author.Needs.{needs}
 use Rattle.ending.proofs.put_ended.Statement.{statement}
 use Rattle.ending.proofs.put_ended.Tie as tie
-use Rattle.ending.proofs.put_ended.Reads as reads
-use Rattle.ending.proofs.put_ended.Lts as lts
-use Rattle.block.proofs.get_head.Reads as get-head-reads
-use Rattle.ending.proofs.let_go.Reads as let-go-reads
-use Rattle.ending.proofs.new_head.Reads as new-head-reads
-use Rattle.rows.proofs.read.current.Reads as current-reads
-use Rattle.rows.proofs.read.thread_at.Reads as thread-at-reads
-use Rattle.spawn.proofs.put_both.Reads as put-both-reads
-use Rattle.spawn.proofs.put_tables.Reads as put-tables-reads
-use Rattle.spawn.proofs.words_of.Reads as words-of-reads
-use Rattle.thread.proofs.end.ended.Reads as ended-reads
-use Rattle.thread.proofs.end.left_by.Reads as left-by-reads
 
 -- src/lib.rt:62:9
 thread-at-requires : tie.Need-thread-at-requires

@@ -1,11 +1,10 @@
 use mathlib.Core.Path.{_≡_, refl, ap, sym, subst, _∙_}
-use mathlib.Core.Bool.{Bool, true}
+use mathlib.Core.Bool.{true}
 use mathlib.Core.List.{List, []}
-use Prim.Native.Nat.{ℕ, _<_}
-use lib.Dec.{eqb}
+use Prim.Native.Nat.{ℕ}
 use lib.ListN.{length, take}
 use borrow.Author.Tests.{eq-eqb, ne-eqb, not-true, not-false}
-use Rattle.laws.specs.Logic.{pick, and-no, and-yes, true-and}
+use Rattle.laws.specs.Logic.{and-no, and-yes, true-and}
 use Rattle.types.specs.declared.kernel.Kernel.{Kernel}
 use Rattle.block.specs.Block.{encBlock, decBlock}
 use Rattle.svc.specs.declared.Registers.{Registers}
@@ -13,10 +12,10 @@ use Rattle.svc.specs.declared.Served.{Served}
 use Rattle.svc.specs.Dispatch.{given, refusal, call}
 use Rattle.guest.specs.declared.bank.Made.{Made}
 use Rattle.guest.specs.Word.{wordFits, word-fits, asked}
-use Rattle.guest.specs.Made.{madeBy, bankMade, bank-made}
+use Rattle.guest.specs.Made.{bankMade, bank-made}
 use Rattle.guest_call.specs.Made.{call-made}
 use Rattle.outcome.specs.declared.Outcome.{Outcome}
-use Rattle.outcome.specs.Outcome.{outcome, left, accepted, found-is, outcome-0, left-0, left-found}
+use Rattle.outcome.specs.Outcome.{left, accepted, found-is, outcome-0, left-0, left-found}
 use Rattle.lent.specs.Lent.{Lent, lent, Back, back}
 use Rattle.lent.specs.Operations.{finding}
 use Rattle.lent.specs.Guest.{registers, wordsIn, served, servedWritten}
@@ -25,19 +24,6 @@ use Rattle.lent.proofs.Cases.{change-1, change-2, change-own, change-found, cha
 use borrow.Author.Needs.{needs}
 use Rattle.guest_call.proofs.operate.Statement.{statement}
 use Rattle.guest_call.proofs.operate.Tie as tie
-use Rattle.guest_call.proofs.operate.Reads as reads
-use Rattle.guest_call.proofs.operate.Lts as lts
-use Rattle.dispatch.proofs.call.call.Reads as call-reads
-use Rattle.guest.proofs.bank.made_by.Reads as made-by-reads
-use Rattle.guest.proofs.bank.put_bank.Reads as put-bank-reads
-use Rattle.guest.proofs.registers.put_registers.Reads as put-registers-reads
-use Rattle.guest.proofs.registers.registers_for.Reads as registers-for-reads
-use Rattle.guest.proofs.window.put_word.Reads as put-word-reads
-use Rattle.guest.proofs.window.window_ok.Reads as window-ok-reads
-use Rattle.guest.proofs.window.words_in.Reads as words-in-reads
-use Rattle.lent.proofs.questions.block_ok.Reads as block-ok-reads
-use Rattle.table.proofs.questions.refusal.Reads as refusal-reads
-use Rattle.table.proofs.questions.words_read.Reads as words-read-reads
 
 abbrev refused : ℕ → ℕ → Lent → Kernel → ℕ
 refused base number l = refusal base (length (l .window)) number (given number (registers (l .processor)))

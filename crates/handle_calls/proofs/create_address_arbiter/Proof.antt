@@ -2,9 +2,6 @@ use Rattle.svc.specs.Arbiter.{createAddressArbiter}
 use borrow.Author.Needs.{needs}
 use Rattle.handle_calls.proofs.create_address_arbiter.Statement.{statement}
 use Rattle.handle_calls.proofs.create_address_arbiter.Tie as tie
-use Rattle.handle_calls.proofs.create_address_arbiter.Reads as reads
-use Rattle.handle_calls.proofs.create_address_arbiter.Lts as lts
-use Rattle.objects.proofs.create.create_object.Reads as create-object-reads
 
 -- src/lib.rt:23:5
 create-object-requires : tie.Need-create-object-requires

@@ -10,10 +10,6 @@ use Rattle.lent.proofs.Cases.{inspect-1, inspect-2, inspect-8, inspect-0}
 use borrow.Author.Needs.{needs}
 use Rattle.next_event.proofs.operate.Statement.{statement}
 use Rattle.next_event.proofs.operate.Tie as tie
-use Rattle.next_event.proofs.operate.Reads as reads
-use Rattle.next_event.proofs.operate.Lts as lts
-use Rattle.lent.proofs.questions.block_ok.Reads as block-ok-reads
-use Rattle.next_event.proofs.put_tick.Reads as put-tick-reads
 
 returns : tie.Need-returns
 unfolding operation.nextEvent

@@ -3,11 +3,6 @@ use Rattle.outcome.specs.Outcome.{outcome-0, outcome-found, left-0, left
 use borrow.Author.Needs.{needs}
 use Rattle.outcome.proofs.finish.Statement.{statement}
 use Rattle.outcome.proofs.finish.Tie as tie
-use Rattle.outcome.proofs.finish.Reads as reads
-use Rattle.outcome.proofs.finish.Lts as lts
-use Rattle.block.proofs.encode.Reads as encode-reads
-use Rattle.lent.proofs.questions.first_finding.Reads as first-finding-reads
-use Rattle.outcome.proofs.refused.Reads as refused-reads
 
 -- src/lib.rt:42:9
 first-finding-requires : tie.Need-first-finding-requires

@@ -6,10 +6,6 @@ use Rattle.lent.specs.Operations.{outOfHandles?}
 use borrow.Author.Needs.{needs}
 use Rattle.outcome.proofs.out_of_handles.Statement.{statement}
 use Rattle.outcome.proofs.out_of_handles.Tie as tie
-use Rattle.outcome.proofs.out_of_handles.Reads as reads
-use Rattle.outcome.proofs.out_of_handles.Lts as lts
-use Rattle.codec.proofs.get32.Reads as get32-reads
-use Rattle.lent.proofs.questions.out_of_handles.Reads as out-of-handles-reads
 
 -- src/lib.rt:54:38
 get32-requires : tie.Need-get32-requires

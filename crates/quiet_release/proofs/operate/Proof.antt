@@ -10,10 +10,6 @@ use Rattle.lent.proofs.Cases.{inspect-1, inspect-2, inspect-8, inspect-0}
 use borrow.Author.Needs.{needs}
 use Rattle.quiet_release.proofs.operate.Statement.{statement}
 use Rattle.quiet_release.proofs.operate.Tie as tie
-use Rattle.quiet_release.proofs.operate.Reads as reads
-use Rattle.quiet_release.proofs.operate.Lts as lts
-use Rattle.lent.proofs.questions.block_ok.Reads as block-ok-reads
-use Rattle.quiet_release.proofs.put_release.Reads as put-release-reads
 
 returns : tie.Need-returns
 unfolding operation.quietRelease

@@ -12,10 +12,6 @@ use Rattle.lent.proofs.Cases.{inspect-1, inspect-2, inspect-8, inspect-0}
 use borrow.Author.Needs.{needs}
 use Rattle.satisfied_now.proofs.operate.Statement.{statement}
 use Rattle.satisfied_now.proofs.operate.Tie as tie
-use Rattle.satisfied_now.proofs.operate.Reads as reads
-use Rattle.satisfied_now.proofs.operate.Lts as lts
-use Rattle.lent.proofs.questions.block_ok.Reads as block-ok-reads
-use Rattle.satisfied_now.proofs.put_satisfied.Reads as put-satisfied-reads
 
 returns : tie.Need-returns
 unfolding operation.satisfiedNow

@@ -9,10 +9,6 @@ use Rattle.spawn.proofs.Made.{create-finding}
 use borrow.Author.Needs.{needs}
 use Rattle.spawn.proofs.create_thread.Statement.{statement}
 use Rattle.spawn.proofs.create_thread.Tie as tie
-use Rattle.spawn.proofs.create_thread.Reads as reads
-use Rattle.spawn.proofs.create_thread.Lts as lts
-use Rattle.spawn.proofs.found_creating.Reads as found-creating-reads
-use Rattle.spawn.proofs.put_created.Reads as put-created-reads
 
 -- src/lib.rt:151:9
 found-creating-requires : tie.Need-found-creating-requires

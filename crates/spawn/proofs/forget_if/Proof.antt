@@ -1,22 +1,14 @@
-use mathlib.Core.Path.{_∙_, ap, subst}
+use mathlib.Core.Path.{_∙_, ap}
 use borrow.Author.Tests.{not-true, not-false}
 use Rattle.codec.specs.Layout.{decAs}
 use Rattle.types.specs.declared.object.ObjectStore.{ObjectStore}
 use Rattle.block.specs.Block.{decBlock}
 use Rattle.thread.specs.Threads.{forgetThread}
 use Rattle.rows.specs.Holds.{holds}
-use Rattle.spawn.specs.Tables.{wordsOf}
 use Rattle.spawn.proofs.Tables.{put-tables}
 use borrow.Author.Needs.{needs}
 use Rattle.spawn.proofs.forget_if.Statement.{statement}
 use Rattle.spawn.proofs.forget_if.Tie as tie
-use Rattle.spawn.proofs.forget_if.Reads as reads
-use Rattle.spawn.proofs.forget_if.Lts as lts
-use Rattle.block.proofs.parts.get_store.Reads as get-store-reads
-use Rattle.codec.proofs.get32.Reads as get32-reads
-use Rattle.spawn.proofs.put_tables.Reads as put-tables-reads
-use Rattle.spawn.proofs.words_of.Reads as words-of-reads
-use Rattle.thread.proofs.create.forget_thread.Reads as forget-thread-reads
 
 -- src/lib.rt:72:19
 get32-requires : tie.Need-get32-requires

@@ -7,12 +7,6 @@ use Rattle.outcome.specs.Findings.{foundOf}
 use borrow.Author.Needs.{needs}
 use Rattle.spawn.proofs.found_creating.Statement.{statement}
 use Rattle.spawn.proofs.found_creating.Tie as tie
-use Rattle.spawn.proofs.found_creating.Reads as reads
-use Rattle.spawn.proofs.found_creating.Lts as lts
-use Rattle.codec.proofs.get32.Reads as get32-reads
-use Rattle.object.proofs.handles.either.Reads as either-reads
-use Rattle.outcome.proofs.found_of.Reads as found-of-reads
-use Rattle.outcome.proofs.out_of_handles.Reads as out-of-handles-reads
 
 -- src/lib.rt:129:9
 get32-requires : tie.Need-get32-requires

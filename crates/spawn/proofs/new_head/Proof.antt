@@ -1,11 +1,6 @@
 use borrow.Author.Needs.{needs}
 use Rattle.spawn.proofs.new_head.Statement.{statement}
 use Rattle.spawn.proofs.new_head.Tie as tie
-use Rattle.spawn.proofs.new_head.Reads as reads
-use Rattle.spawn.proofs.new_head.Lts as lts
-use Rattle.object.proofs.handles.more_below.Reads as more-below-reads
-use Rattle.thread.proofs.create.counted.Reads as counted-reads
-use Rattle.thread.proofs.create.given_out.Reads as given-out-reads
 
 -- src/lib.rt:90:9
 counted-requires : tie.Need-counted-requires

@@ -5,10 +5,6 @@ use Rattle.rows.specs.Rows.{headPut}
 use borrow.Author.Needs.{needs}
 use Rattle.spawn.proofs.put_both.Statement.{statement}
 use Rattle.spawn.proofs.put_both.Tie as tie
-use Rattle.spawn.proofs.put_both.Reads as reads
-use Rattle.spawn.proofs.put_both.Lts as lts
-use Rattle.rows.proofs.write.put_head.Reads as put-head-reads
-use Rattle.rows.proofs.write.put_thread.Reads as put-thread-reads
 
 -- src/lib.rt:105:5
 put-thread-requires : tie.Need-put-thread-requires

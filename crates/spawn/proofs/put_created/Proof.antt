@@ -1,21 +1,11 @@
-use mathlib.Core.Path.{sym, ap, subst, _∙_}
+use mathlib.Core.Path.{_∙_}
 use Rattle.rows.specs.Head.{sound-head}
-use Rattle.rows.specs.Rows.{threadPut, headPut}
-use native.Mathlib.Omega.{arith}
 use Rattle.thread.proofs.Steps.{tls-le}
 use Rattle.block.specs.Block.{decBlock}
 use Rattle.spawn.proofs.Made.{made}
 use borrow.Author.Needs.{needs}
 use Rattle.spawn.proofs.put_created.Statement.{statement}
 use Rattle.spawn.proofs.put_created.Tie as tie
-use Rattle.spawn.proofs.put_created.Reads as reads
-use Rattle.spawn.proofs.put_created.Lts as lts
-use Rattle.block.proofs.get_head.Reads as get-head-reads
-use Rattle.spawn.proofs.forget_if.Reads as forget-if-reads
-use Rattle.spawn.proofs.new_head.Reads as new-head-reads
-use Rattle.spawn.proofs.put_both.Reads as put-both-reads
-use Rattle.thread.proofs.places.least_of.Reads as least-of-reads
-use Rattle.thread.proofs.thread.new_thread.Reads as new-thread-reads
 
 -- src/lib.rt:125:9
 get-head-requires : tie.Need-get-head-requires

@@ -8,11 +8,6 @@ use Rattle.spawn.specs.Tables.{tablesPut}
 use borrow.Author.Needs.{needs}
 use Rattle.spawn.proofs.put_tables.Statement.{statement}
 use Rattle.spawn.proofs.put_tables.Tie as tie
-use Rattle.spawn.proofs.put_tables.Reads as reads
-use Rattle.spawn.proofs.put_tables.Lts as lts
-use Rattle.block.proofs.slot.put_slots.Reads as put-slots-reads
-use Rattle.block.proofs.table.put_ids32.Reads as put-ids32-reads
-use Rattle.block.proofs.table.put_waiters.Reads as put-waiters-reads
 
 -- src/lib.rt:47:5
 put-slots-requires : tie.Need-put-slots-requires

@@ -1,4 +1,4 @@
-use mathlib.Core.Path.{_≡_, refl, sym, ap, _∙_}
+use mathlib.Core.Path.{_≡_, sym, ap, _∙_}
 use Prim.Native.Nat.{_-_, _≤_}
 use native.Mathlib.Numerals.{unary-clauses}
 use Rattle.laws.specs.Logic.{pick-yes, pick-no}
@@ -10,11 +10,6 @@ use Rattle.vacant.proofs.Steps.{from-step, from-end}
 use borrow.Author.Needs.{needs}
 use Rattle.vacant.proofs.ended_thread.Statement.{statement}
 use Rattle.vacant.proofs.ended_thread.Tie as tie
-use Rattle.vacant.proofs.ended_thread.Reads as reads
-use Rattle.vacant.proofs.ended_thread.Lts as lts
-use Rattle.codec.proofs.get32.Reads as get32-reads
-use Rattle.thread.proofs.places.least_of.Reads as least-of-reads
-use Rattle.vacant.proofs.is_ended.Reads as is-ended-reads
 
 abbrev Inv-loop : tie.InvT-loop
 Inv-loop b n i₀ i = (n ≤ 32) × ((i ≤ n) × (endedFrom (decBlock b) (n - i) i ≡ endedFrom (decBlock b) n 0))

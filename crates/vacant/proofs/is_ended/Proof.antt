@@ -10,12 +10,6 @@ use Rattle.sound.specs.View.{slotAt}
 use borrow.Author.Needs.{needs}
 use Rattle.vacant.proofs.is_ended.Statement.{statement}
 use Rattle.vacant.proofs.is_ended.Tie as tie
-use Rattle.vacant.proofs.is_ended.Reads as reads
-use Rattle.vacant.proofs.is_ended.Lts as lts
-use Rattle.rows.proofs.read.kept_at.Reads as kept-at-reads
-use Rattle.rows.proofs.read.slot_at.Reads as slot-at-reads
-use Rattle.rows.proofs.read.thread_at.Reads as thread-at-reads
-use Rattle.types.proofs.thread.is_dead.Reads as is-dead-reads
 
 -- src/lib.rt:21:9
 thread-at-requires : tie.Need-thread-at-requires

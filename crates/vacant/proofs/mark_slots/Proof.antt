@@ -8,14 +8,10 @@ use Rattle.block.specs.Block.{decBlock}
 use Rattle.sound.specs.Tls.{held, held-end}
 use Rattle.tally.specs.Lists.{slotOf}
 use Rattle.tally.proofs.Held.{tally-held}
-use Rattle.vacant.proofs.Steps.{size-threads}
+use Rattle.rows.specs.Sizes.{size-threads}
 use borrow.Author.Needs.{needs}
 use Rattle.vacant.proofs.mark_slots.Statement.{statement}
 use Rattle.vacant.proofs.mark_slots.Tie as tie
-use Rattle.vacant.proofs.mark_slots.Reads as reads
-use Rattle.vacant.proofs.mark_slots.Lts as lts
-use Rattle.rows.proofs.read.thread_at.Reads as thread-at-reads
-use Rattle.tally.proofs.tally_slot.Reads as tally-slot-reads
 
 abbrev Inv-loop : tie.InvT-loop
 Inv-loop m₀ b i₀ m i = (i ≤ 32) × (tally 129 m (held (drop i (decBlock b .threads))) ≡ tally 129 m₀ (held (decBlock b .threads)))

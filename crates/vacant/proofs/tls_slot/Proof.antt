@@ -1,21 +1,14 @@
 use mathlib.Core.Path.{_≡_, _∙_}
-use Prim.Native.Nat.{_≤_}
 use native.Mathlib.Omega.{arith}
 use Rattle.codec.specs.Layout.{decAs}
 use Rattle.block.specs.Block.{decBlock}
 use Rattle.thread.specs.Threads.{least, tlsSlot}
 use Rattle.thread.specs.Marks.{least-le, free-is}
 use Rattle.thread.proofs.Steps.{tls-le}
-use Rattle.vacant.proofs.Steps.{size-threads}
+use Rattle.rows.specs.Sizes.{size-threads}
 use borrow.Author.Needs.{needs}
 use Rattle.vacant.proofs.tls_slot.Statement.{statement}
 use Rattle.vacant.proofs.tls_slot.Tie as tie
-use Rattle.vacant.proofs.tls_slot.Reads as reads
-use Rattle.vacant.proofs.tls_slot.Lts as lts
-use Rattle.codec.proofs.get32.Reads as get32-reads
-use Rattle.thread.proofs.places.free_slot.Reads as free-slot-reads
-use Rattle.thread.proofs.places.least_of.Reads as least-of-reads
-use Rattle.vacant.proofs.mark_slots.Reads as mark-slots-reads
 
 -- src/lib.rt:69:30
 get32-requires : tie.Need-get32-requires

@@ -10,7 +10,7 @@ use Rattle.arbiter.proofs.wake.unlink_woken.Kinds as unlink-woken-kinds
 use Rattle.arbiter.proofs.wake.+unlink_woken.Lts-unlink_woken as unlink-woken-lts
 use Rattle.object.proofs.waiters.cell.Reads as cell-reads
 use Rattle.arbiter.proofs.wake.decide.Reads as decide-reads
-use Rattle.arbiter.proofs.wake.link_cells.Reads as link-cells-reads
+use Rattle.object.proofs.waiters.link_cells.Reads as link-cells-reads
 use Rattle.arbiter.proofs.wake.+unlink_woken.{statement}
 use Rattle.arbiter.proofs.wake.+unlink_woken.Tie.{close}
 

@@ -12,7 +12,8 @@ use Rattle.sound.specs.View.{noThread}
 use Rattle.kernel.specs.NextEvent.{wakeAfter, nextWake}
 use Rattle.kernel.specs.Marks.{listIf, listsIf, option}
 use Rattle.kernel.proofs.Steps.{wake-step, wake-end}
-use Rattle.due.proofs.Looked.{thread-is, size-threads}
+use Rattle.rows.specs.Sizes.{size-threads}
+use Rattle.due.proofs.Looked.{thread-is}
 use borrow.Author.Needs.{needs}
 use Rattle.asked.proofs.event.look_at_threads.Statement.{statement}
 use Rattle.asked.proofs.event.look_at_threads.Tie as tie

@@ -5,7 +5,7 @@ use lib.ListN.{drop}
 use Rattle.block.specs.Block.{decBlock}
 use Rattle.kernel.specs.Marks.{dueMarked, option}
 use Rattle.kernel.proofs.Steps.{due-step, due-end}
-use Rattle.due.proofs.Looked.{size-slots}
+use Rattle.rows.specs.Sizes.{size-slots}
 use borrow.Author.Needs.{needs}
 use Rattle.asked.proofs.event.next_due.Statement.{statement}
 use Rattle.asked.proofs.event.next_due.Tie as tie

@@ -7,7 +7,7 @@ use Rattle.types.specs.declared.thread.TickOption.the-variants.{NoTick}
 use Rattle.block.specs.Block.{decBlock}
 use Rattle.kernel.specs.NextEvent.{nextWake}
 use Rattle.kernel.specs.Marks.{listIf, due-is}
-use Rattle.due.proofs.Looked.{size-threads, size-slots}
+use Rattle.rows.specs.Sizes.{size-threads, size-slots}
 use Rattle.asked.proofs.Idle.{event-is}
 use borrow.Author.Needs.{needs}
 use Rattle.asked.proofs.event.next_event.Statement.{statement}

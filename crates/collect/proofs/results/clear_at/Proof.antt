@@ -3,11 +3,6 @@ use Rattle.rows.specs.Rows.{threadPut}
 use borrow.Author.Needs.{needs}
 use Rattle.collect.proofs.results.clear_at.Statement.{statement}
 use Rattle.collect.proofs.results.clear_at.Tie as tie
-use Rattle.collect.proofs.results.clear_at.Reads as reads
-use Rattle.collect.proofs.results.clear_at.Lts as lts
-use Rattle.rows.proofs.read.thread_at.Reads as thread-at-reads
-use Rattle.rows.proofs.write.put_thread.Reads as put-thread-reads
-use Rattle.thread.proofs.thread.with_result.Reads as with-result-reads
 
 -- src/results.rt:82:9
 returns : tie.Need-returns

@@ -2,10 +2,6 @@ use Rattle.svc.specs.Collect as def
 use borrow.Author.Needs.{needs}
 use Rattle.collect.proofs.results.collect.Statement.{statement}
 use Rattle.collect.proofs.results.collect.Tie as tie
-use Rattle.collect.proofs.results.collect.Reads as reads
-use Rattle.collect.proofs.results.collect.Lts as lts
-use Rattle.collect.proofs.results.collect_as.Reads as collect-as-reads
-use Rattle.rows.proofs.read.current.Reads as current-reads
 
 -- src/results.rt:108:9
 current-requires : tie.Need-current-requires

@@ -2,9 +2,6 @@ use Rattle.rows.specs.Holds.{holds, put-thread}
 use borrow.Author.Needs.{needs}
 use Rattle.collect.proofs.results.collect_as.Statement.{statement}
 use Rattle.collect.proofs.results.collect_as.Tie as tie
-use Rattle.collect.proofs.results.collect_as.Reads as reads
-use Rattle.collect.proofs.results.collect_as.Lts as lts
-use Rattle.collect.proofs.results.clear_at.Reads as clear-at-reads
 
 enum-told : tie.Need-enum-told
 enum-told c = search needs

@@ -2,10 +2,6 @@ use Rattle.svc.specs.Collect as def
 use borrow.Author.Needs.{needs}
 use Rattle.collect.proofs.results.collected_result.Statement.{statement}
 use Rattle.collect.proofs.results.collected_result.Tie as tie
-use Rattle.collect.proofs.results.collected_result.Reads as reads
-use Rattle.collect.proofs.results.collected_result.Lts as lts
-use Rattle.collect.proofs.results.result_as.Reads as result-as-reads
-use Rattle.rows.proofs.read.current.Reads as current-reads
 
 -- src/results.rt:44:9
 current-requires : tie.Need-current-requires

@@ -2,10 +2,6 @@ use Rattle.svc.specs.Collect as def
 use borrow.Author.Needs.{needs}
 use Rattle.collect.proofs.results.collected_syscall.Statement.{statement}
 use Rattle.collect.proofs.results.collected_syscall.Tie as tie
-use Rattle.collect.proofs.results.collected_syscall.Reads as reads
-use Rattle.collect.proofs.results.collected_syscall.Lts as lts
-use Rattle.collect.proofs.results.syscall_as.Reads as syscall-as-reads
-use Rattle.rows.proofs.read.current.Reads as current-reads
 
 -- src/results.rt:73:9
 current-requires : tie.Need-current-requires

@@ -1,9 +1,6 @@
 use borrow.Author.Needs.{needs}
 use Rattle.collect.proofs.results.result_as.Statement.{statement}
 use Rattle.collect.proofs.results.result_as.Tie as tie
-use Rattle.collect.proofs.results.result_as.Reads as reads
-use Rattle.collect.proofs.results.result_as.Lts as lts
-use Rattle.collect.proofs.results.result_at.Reads as result-at-reads
 
 -- src/results.rt:35:35
 enum-told : tie.Need-enum-told

@@ -1,9 +1,6 @@
 use borrow.Author.Needs.{needs}
 use Rattle.collect.proofs.results.syscall_as.Statement.{statement}
 use Rattle.collect.proofs.results.syscall_as.Tie as tie
-use Rattle.collect.proofs.results.syscall_as.Reads as reads
-use Rattle.collect.proofs.results.syscall_as.Lts as lts
-use Rattle.collect.proofs.results.syscall_at.Reads as syscall-at-reads
 
 -- src/results.rt:64:35
 enum-told : tie.Need-enum-told

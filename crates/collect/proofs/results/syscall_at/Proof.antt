@@ -1,4 +1,4 @@
-use mathlib.Core.Path.{ap, _∙_}
+use mathlib.Core.Path.{ap}
 use native.Mathlib.Omega.{arith}
 use Rattle.codec.proofs.Fit.{length-decAll}
 use Rattle.types.specs.declared.thread.Thread.{Thread}
@@ -9,9 +9,6 @@ use Rattle.pick.proofs.Steps.{far}
 use borrow.Author.Needs.{needs}
 use Rattle.collect.proofs.results.syscall_at.Statement.{statement}
 use Rattle.collect.proofs.results.syscall_at.Tie as tie
-use Rattle.collect.proofs.results.syscall_at.Reads as reads
-use Rattle.collect.proofs.results.syscall_at.Lts as lts
-use Rattle.rows.proofs.read.thread_at.Reads as thread-at-reads
 
 -- src/results.rt:53:9
 returns : tie.Need-returns

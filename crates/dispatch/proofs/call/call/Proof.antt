@@ -6,28 +6,6 @@ use Rattle.block.specs.Block.{decBlock}
 use borrow.Author.Needs.{needs}
 use Rattle.dispatch.proofs.call.call.Statement.{statement}
 use Rattle.dispatch.proofs.call.call.Tie as tie
-use Rattle.dispatch.proofs.call.call.Reads as reads
-use Rattle.dispatch.proofs.call.call.Lts as lts
-use Rattle.dispatch.proofs.whole.arbitrate_address.Reads as arbitrate-address-reads
-use Rattle.dispatch.proofs.whole.no_call.Reads as no-call-reads
-use Rattle.handle_calls.proofs.close.close_handle.Reads as close-handle-reads
-use Rattle.handle_calls.proofs.create_address_arbiter.Reads as create-address-arbiter-reads
-use Rattle.handle_calls.proofs.duplicate.duplicate_handle.Reads as duplicate-handle-reads
-use Rattle.sync_calls.proofs.event.clear_event.Reads as clear-event-reads
-use Rattle.sync_calls.proofs.event.create_event.Reads as create-event-reads
-use Rattle.sync_calls.proofs.event.signal_event.Reads as signal-event-reads
-use Rattle.sync_calls.proofs.mutex.create_mutex.Reads as create-mutex-reads
-use Rattle.sync_calls.proofs.mutex.release_mutex.Reads as release-mutex-reads
-use Rattle.sync_calls.proofs.semaphore.create_semaphore.Reads as create-semaphore-reads
-use Rattle.sync_calls.proofs.semaphore.release_semaphore.Reads as release-semaphore-reads
-use Rattle.threads.proofs.priority.set_thread_priority.Reads as set-thread-priority-reads
-use Rattle.threads.proofs.sleep.sleep_thread.Reads as sleep-thread-reads
-use Rattle.timer_calls.proofs.timers.cancel_timer.Reads as cancel-timer-reads
-use Rattle.timer_calls.proofs.timers.clear_timer.Reads as clear-timer-reads
-use Rattle.timer_calls.proofs.timers.create_timer.Reads as create-timer-reads
-use Rattle.timer_calls.proofs.timers.set_timer.Reads as set-timer-reads
-use Rattle.wait_calls.proofs.many.wait_synchronization_n.Reads as wait-synchronization-n-reads
-use Rattle.wait_calls.proofs.one.wait_synchronization1.Reads as wait-synchronization1-reads
 
 -- src/call.rt:28:9
 create-thread-requires : tie.Need-create-thread-requires

@@ -1,12 +1,6 @@
 use borrow.Author.Needs.{needs}
 use Rattle.dispatch.proofs.whole.arbitrate_address.Statement.{statement}
 use Rattle.dispatch.proofs.whole.arbitrate_address.Tie as tie
-use Rattle.dispatch.proofs.whole.arbitrate_address.Reads as reads
-use Rattle.dispatch.proofs.whole.arbitrate_address.Lts as lts
-use Rattle.arbiter.proofs.arbiter.arbitrate_address.Reads as arbitrate-address-reads
-use Rattle.block.proofs.decode.Reads as decode-reads
-use Rattle.dispatch.proofs.whole.first_word.Reads as first-word-reads
-use Rattle.outcome.proofs.finish.Reads as finish-reads
 
 -- src/whole.rt:47:9
 decode-requires : tie.Need-decode-requires

@@ -1,11 +1,6 @@
 use borrow.Author.Needs.{needs}
 use Rattle.dispatch.proofs.whole.no_call.Statement.{statement}
 use Rattle.dispatch.proofs.whole.no_call.Tie as tie
-use Rattle.dispatch.proofs.whole.no_call.Reads as reads
-use Rattle.dispatch.proofs.whole.no_call.Lts as lts
-use Rattle.answering.proofs.silent.Reads as silent-reads
-use Rattle.block.proofs.decode.Reads as decode-reads
-use Rattle.outcome.proofs.finish.Reads as finish-reads
 
 -- src/whole.rt:58:9
 decode-requires : tie.Need-decode-requires

@@ -4,11 +4,6 @@ use Rattle.block.specs.Block.{decBlock}
 use borrow.Author.Needs.{needs}
 use Rattle.guest.proofs.bank.made_by.Statement.{statement}
 use Rattle.guest.proofs.bank.made_by.Tie as tie
-use Rattle.guest.proofs.bank.made_by.Reads as reads
-use Rattle.guest.proofs.bank.made_by.Lts as lts
-use Rattle.codec.proofs.get32.Reads as get32-reads
-use Rattle.vacant.proofs.ended_thread.Reads as ended-thread-reads
-use Rattle.vacant.proofs.tls_slot.Reads as tls-slot-reads
 
 -- src/bank.rt:22:9
 returns : tie.Need-returns

@@ -2,10 +2,6 @@ use borrow.Author.Tests.{eq-eqb, ne-eqb}
 use borrow.Author.Needs.{needs}
 use Rattle.guest.proofs.bank.put_bank.Statement.{statement}
 use Rattle.guest.proofs.bank.put_bank.Tie as tie
-use Rattle.guest.proofs.bank.put_bank.Reads as reads
-use Rattle.guest.proofs.bank.put_bank.Lts as lts
-use Rattle.block.proofs.context.put_row.Reads as put-row-reads
-use Rattle.thread.proofs.thread.new_context.Reads as new-context-reads
 
 -- src/bank.rt:45:9
 returns : tie.Need-returns

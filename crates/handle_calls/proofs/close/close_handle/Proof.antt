@@ -1,20 +1,13 @@
-use Rattle.block.specs.Block.{decBlock}
 use mathlib.Core.Bool.{false}
 use native.Mathlib.Omega.{arith}
 use Rattle.svc.specs.Handles.{closeHandle}
 use Rattle.outcome.specs.Outcome.{outcome-0, outcome-found, left-0, left-found}
 use Rattle.outcome.specs.Findings.{foundOf}
 use Rattle.handle_calls.proofs.Found.{close-finding}
-use mathlib.Core.Path.{_≡_, refl, ap, sym, subst, _∙_}
+use mathlib.Core.Path.{ap, sym, _∙_}
 use borrow.Author.Needs.{needs}
 use Rattle.handle_calls.proofs.close.close_handle.Statement.{statement}
 use Rattle.handle_calls.proofs.close.close_handle.Tie as tie
-use Rattle.handle_calls.proofs.close.close_handle.Reads as reads
-use Rattle.handle_calls.proofs.close.close_handle.Lts as lts
-use Rattle.handle_calls.proofs.close.put_closed.Reads as put-closed-reads
-use Rattle.outcome.proofs.done.Reads as done-reads
-use Rattle.outcome.proofs.out_of_handles.Reads as out-of-handles-reads
-use Rattle.outcome.proofs.refused.Reads as refused-reads
 
 -- src/close.rt:71:8
 out-of-handles-requires : tie.Need-out-of-handles-requires

@@ -3,10 +3,6 @@ use Rattle.block.specs.Block.{decBlock}
 use borrow.Author.Needs.{needs}
 use Rattle.handle_calls.proofs.close.get_table.Statement.{statement}
 use Rattle.handle_calls.proofs.close.get_table.Tie as tie
-use Rattle.handle_calls.proofs.close.get_table.Reads as reads
-use Rattle.handle_calls.proofs.close.get_table.Lts as lts
-use Rattle.block.proofs.table.get_entries.Reads as get-entries-reads
-use Rattle.codec.proofs.get32.Reads as get32-reads
 
 -- src/close.rt:23:9
 get-entries-requires : tie.Need-get-entries-requires

@@ -1,10 +1,5 @@
-use mathlib.Core.Path.{_≡_, refl, ap, sym, subst, _∙_}
+use mathlib.Core.Path.{_≡_, sym, subst, _∙_}
 use Rattle.block.specs.Block.{decBlock}
-use mathlib.Core.List.{List}
-use Prim.Native.Nat.{ℕ}
-use native.Mathlib.Omega.{arith}
-use Rattle.types.specs.declared.object.HandleTable.{HandleTable}
-use Rattle.types.specs.declared.object.ObjectStore.{ObjectStore}
 use Rattle.object.specs.declared.handles.Both.{Both}
 use Rattle.object.specs.Handles.{close}
 use Rattle.svc.specs.Call.{withHandles}
@@ -14,14 +9,6 @@ use Rattle.handle_calls.proofs.Written.{Kept, close-kept, closed}
 use borrow.Author.Needs.{needs}
 use Rattle.handle_calls.proofs.close.put_closed.Statement.{statement}
 use Rattle.handle_calls.proofs.close.put_closed.Tie as tie
-use Rattle.handle_calls.proofs.close.put_closed.Reads as reads
-use Rattle.handle_calls.proofs.close.put_closed.Lts as lts
-use Rattle.block.proofs.get_head.Reads as get-head-reads
-use Rattle.block.proofs.parts.get_store.Reads as get-store-reads
-use Rattle.handle_calls.proofs.close.get_table.Reads as get-table-reads
-use Rattle.handle_calls.proofs.close.put_tables.Reads as put-tables-reads
-use Rattle.object.proofs.handles.close.Reads as close-reads
-use Rattle.rows.proofs.write.put_head.Reads as put-head-reads
 
 -- src/close.rt:63:9
 get-head-requires : tie.Need-get-head-requires

@@ -7,11 +7,6 @@ use Rattle.block.specs.Table.{encEntry, encWaiter}
 use borrow.Author.Needs.{needs}
 use Rattle.handle_calls.proofs.close.put_tables.Statement.{statement}
 use Rattle.handle_calls.proofs.close.put_tables.Tie as tie
-use Rattle.handle_calls.proofs.close.put_tables.Reads as reads
-use Rattle.handle_calls.proofs.close.put_tables.Lts as lts
-use Rattle.block.proofs.slot.put_slots.Reads as put-slots-reads
-use Rattle.block.proofs.table.put_entries.Reads as put-entries-reads
-use Rattle.block.proofs.table.put_waiters.Reads as put-waiters-reads
 
 -- src/close.rt:52:5
 put-slots-requires : tie.Need-put-slots-requires

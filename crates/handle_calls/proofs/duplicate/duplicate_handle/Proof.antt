@@ -10,21 +10,11 @@ use Rattle.svc.specs.Call.{withHandles, withObjects, resolved, answers, gives}
 use Rattle.svc.specs.Handles.{duplicateHandle}
 use Rattle.objects.proofs.Sound.{opened-state}
 use Rattle.objects.proofs.Calls.{refused-call, accepted-call}
-use Rattle.outcome.specs.Outcome.{given}
 use Rattle.handle_calls.proofs.Found.{duplicate-finding}
-use mathlib.Core.Path.{_≡_, refl, ap, sym, subst, _∙_}
+use mathlib.Core.Path.{_≡_, sym, subst, _∙_}
 use borrow.Author.Needs.{needs}
 use Rattle.handle_calls.proofs.duplicate.duplicate_handle.Statement.{statement}
 use Rattle.handle_calls.proofs.duplicate.duplicate_handle.Tie as tie
-use Rattle.handle_calls.proofs.duplicate.duplicate_handle.Reads as reads
-use Rattle.handle_calls.proofs.duplicate.duplicate_handle.Lts as lts
-use Rattle.codec.proofs.get32.Reads as get32-reads
-use Rattle.handle_calls.proofs.duplicate.put_duplicate.Reads as put-duplicate-reads
-use Rattle.handle_calls.proofs.duplicate.without_room.Reads as without-room-reads
-use Rattle.objects.proofs.open.open.Reads as open-reads
-use Rattle.outcome.proofs.answers.Reads as answers-reads
-use Rattle.outcome.proofs.gives.Reads as gives-reads
-use Rattle.outcome.proofs.refused.Reads as refused-reads
 
 abbrev after : Kernel → ℕ → Kernel
 after k o = withHandles k (give (k .handles) o) (addRef (k .objects) o)

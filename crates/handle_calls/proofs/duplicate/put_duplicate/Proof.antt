@@ -1,23 +1,13 @@
-use Rattle.block.specs.Block.{decBlock}
 use native.Mathlib.Omega.{arith}
 use Rattle.block.specs.declared.Head.{Head}
-use Rattle.types.specs.declared.object.Slot.{Slot}
 use Rattle.object.specs.Held.{held}
 use Rattle.rows.specs.Head.{sound-head}
-use Rattle.rows.specs.Holds.{Holds, holds}
+use Rattle.rows.specs.Holds.{holds}
 use Rattle.handle_calls.proofs.Written.{duplicated}
-use mathlib.Core.Path.{_≡_, refl, ap, sym, subst, _∙_}
+use mathlib.Core.Path.{ap, _∙_}
 use borrow.Author.Needs.{needs}
 use Rattle.handle_calls.proofs.duplicate.put_duplicate.Statement.{statement}
 use Rattle.handle_calls.proofs.duplicate.put_duplicate.Tie as tie
-use Rattle.handle_calls.proofs.duplicate.put_duplicate.Reads as reads
-use Rattle.handle_calls.proofs.duplicate.put_duplicate.Lts as lts
-use Rattle.block.proofs.get_head.Reads as get-head-reads
-use Rattle.object.proofs.store.held.Reads as held-reads
-use Rattle.rows.proofs.read.slot_at.Reads as slot-at-reads
-use Rattle.rows.proofs.write.put_entry.Reads as put-entry-reads
-use Rattle.rows.proofs.write.put_head.Reads as put-head-reads
-use Rattle.rows.proofs.write.put_slot.Reads as put-slot-reads
 
 -- src/duplicate.rt:33:9
 get-head-requires : tie.Need-get-head-requires

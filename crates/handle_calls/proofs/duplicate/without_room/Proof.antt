@@ -1,14 +1,6 @@
-use Rattle.block.specs.Block.{decBlock}
-use Rattle.svc.specs.declared.Served.{Served}
-use mathlib.Core.Path.{_≡_, refl, ap, sym, subst, _∙_}
 use borrow.Author.Needs.{needs}
 use Rattle.handle_calls.proofs.duplicate.without_room.Statement.{statement}
 use Rattle.handle_calls.proofs.duplicate.without_room.Tie as tie
-use Rattle.handle_calls.proofs.duplicate.without_room.Reads as reads
-use Rattle.handle_calls.proofs.duplicate.without_room.Lts as lts
-use Rattle.block.proofs.decode.Reads as decode-reads
-use Rattle.calls.proofs.handles.duplicate_handle.Reads as duplicate-handle-reads
-use Rattle.outcome.proofs.finish.Reads as finish-reads
 
 -- src/duplicate.rt:65:9
 decode-requires : tie.Need-decode-requires

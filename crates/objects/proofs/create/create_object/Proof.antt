@@ -1,4 +1,4 @@
-use mathlib.Core.Path.{refl, ap, sym, _∙_}
+use mathlib.Core.Path.{ap, sym, _∙_}
 use lib.Dec.{eqb, leb}
 use borrow.Author.Tests.{leb-false}
 use Rattle.laws.specs.Logic.{_or_, or-false}
@@ -6,19 +6,11 @@ use Rattle.codec.specs.Layout.{decAs}
 use Rattle.block.specs.Block.{decBlock}
 use Rattle.svc.specs.Call.{createObject}
 use Rattle.outcome.specs.Outcome.{given, outcome-0, outcome-found, left-0, left-found}
-use Rattle.outcome.specs.Findings.{foundOf}
-use Rattle.objects.proofs.Found.{none-found, created-finding}
+use Rattle.outcome.specs.Findings.{foundOf, none-found}
+use Rattle.objects.proofs.Found.{created-finding}
 use borrow.Author.Needs.{needs}
 use Rattle.objects.proofs.create.create_object.Statement.{statement}
 use Rattle.objects.proofs.create.create_object.Tie as tie
-use Rattle.objects.proofs.create.create_object.Reads as reads
-use Rattle.objects.proofs.create.create_object.Lts as lts
-use Rattle.codec.proofs.get32.Reads as get32-reads
-use Rattle.object.proofs.handles.either.Reads as either-reads
-use Rattle.objects.proofs.create.put_created.Reads as put-created-reads
-use Rattle.outcome.proofs.found_of.Reads as found-of-reads
-use Rattle.outcome.proofs.gives.Reads as gives-reads
-use Rattle.outcome.proofs.refused.Reads as refused-reads
 
 -- src/create.rt:77:9
 get32-requires : tie.Need-get32-requires

@@ -1,24 +1,12 @@
-use mathlib.Core.Path.{ap, sym, subst, _∙_}
-use mathlib.Core.List.{List}
-use Prim.Native.Nat.{ℕ}
+use mathlib.Core.Path.{ap, _∙_}
 use native.Mathlib.Omega.{arith}
 use Rattle.block.specs.declared.Head.{Head}
 use Rattle.rows.specs.Head.{sound-head}
-use Rattle.rows.specs.Holds.{Holds, holds}
-use Rattle.rows.specs.Rows.{entryPut, headPut}
+use Rattle.rows.specs.Holds.{holds}
 use Rattle.objects.proofs.Made.{created}
-use mathlib.Core.Path.{refl, ap, sym, subst, _∙_}
 use borrow.Author.Needs.{needs}
 use Rattle.objects.proofs.create.put_created.Statement.{statement}
 use Rattle.objects.proofs.create.put_created.Tie as tie
-use Rattle.objects.proofs.create.put_created.Reads as reads
-use Rattle.objects.proofs.create.put_created.Lts as lts
-use Rattle.block.proofs.get_head.Reads as get-head-reads
-use Rattle.rows.proofs.read.slot_at.Reads as slot-at-reads
-use Rattle.rows.proofs.write.put_entry.Reads as put-entry-reads
-use Rattle.rows.proofs.write.put_head.Reads as put-head-reads
-use Rattle.rows.proofs.write.put_slot.Reads as put-slot-reads
-use Rattle.types.proofs.object.next_of.Reads as next-of-reads
 
 -- src/create.rt:33:9
 get-head-requires : tie.Need-get-head-requires

@@ -3,11 +3,6 @@ use Rattle.block.specs.Block.{decBlock}
 use borrow.Author.Needs.{needs}
 use Rattle.objects.proofs.open.found_making.Statement.{statement}
 use Rattle.objects.proofs.open.found_making.Tie as tie
-use Rattle.objects.proofs.open.found_making.Reads as reads
-use Rattle.objects.proofs.open.found_making.Lts as lts
-use Rattle.codec.proofs.get32.Reads as get32-reads
-use Rattle.outcome.proofs.found_of.Reads as found-of-reads
-use Rattle.outcome.proofs.out_of_handles.Reads as out-of-handles-reads
 
 -- src/open.rt:83:9
 get32-requires : tie.Need-get32-requires

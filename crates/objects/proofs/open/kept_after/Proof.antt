@@ -1,9 +1,6 @@
 use borrow.Author.Tests.{lt-ltb, le-ltb}
-use borrow.Author.Needs.{needs}
 use Rattle.objects.proofs.open.kept_after.Statement.{statement}
 use Rattle.objects.proofs.open.kept_after.Tie as tie
-use Rattle.objects.proofs.open.kept_after.Reads as reads
-use Rattle.objects.proofs.open.kept_after.Lts as lts
 
 -- src/open.rt:93:9
 returns : tie.Need-returns

@@ -1,27 +1,15 @@
-use mathlib.Core.Path.{_≡_, refl, ap, sym, subst, _∙_}
-use mathlib.Core.Bool.{Bool, true, false}
-use mathlib.Core.List.{List}
-use Prim.Native.Nat.{ℕ}
+use mathlib.Core.Path.{refl, ap, _∙_}
 use borrow.Author.Tests.{eq-eqb, ne-eqb}
 use Rattle.units.specs.declared.ObjectId.{ObjectId}
-use Rattle.types.specs.declared.kernel.Kernel.{Kernel}
 use Rattle.block.specs.Block.{decBlock}
-use Rattle.object.specs.Kept.{resolve, ofCurrent}
+use Rattle.object.specs.Kept.{resolve}
 use Rattle.svc.specs.Call.{resolved}
-use Rattle.objects.specs.declared.open.Opened.{Opened}
-use Rattle.objects.specs.Open.{Opens, ofProcess}
+use Rattle.objects.specs.Open.{Opens}
 use Rattle.objects.proofs.Opened.{opens-same}
 use Rattle.objects.proofs.Sound.{opened-block}
 use borrow.Author.Needs.{needs}
 use Rattle.objects.proofs.open.open.Statement.{statement}
 use Rattle.objects.proofs.open.open.Tie as tie
-use Rattle.objects.proofs.open.open.Reads as reads
-use Rattle.objects.proofs.open.open.Lts as lts
-use Rattle.objects.proofs.open.open_current.Reads as open-current-reads
-use Rattle.objects.proofs.open.open_process.Reads as open-process-reads
-use Rattle.objects.proofs.open.there.Reads as there-reads
-use Rattle.rows.proofs.read.current.Reads as current-reads
-use Rattle.rows.proofs.read.object_of.Reads as object-of-reads
 
 -- src/open.rt:167:13
 current-requires : tie.Need-current-requires

@@ -1,25 +1,12 @@
-use mathlib.Core.Path.{refl, ap, sym, subst, _∙_}
-use Prim.Native.Nat.{ℕ}
-use Rattle.codec.specs.Layout.{decAs}
+use mathlib.Core.Path.{refl, ap}
 use Rattle.units.specs.declared.ObjectId.{ObjectId}
-use Rattle.types.specs.declared.object.ObjectStore.{ObjectStore}
-use Rattle.types.specs.declared.object.KObject.the-variants.{Thread, Process}
 use Rattle.block.specs.Block.{decBlock}
-use Rattle.object.specs.Slots.{withProcess}
-use Rattle.object.specs.Store.{insert}
 use Rattle.object.specs.Kept.{ofCurrent}
-use Rattle.svc.specs.Call.{withObjects}
-use Rattle.rows.specs.Holds.{Holds}
-use Rattle.objects.specs.Open.{ofProcess}
-use Rattle.objects.proofs.Opened.{opens-same, thread-kept, process-kept, thread-finding, process-finding, opens-refused, opens-process, opens-thread}
-use Rattle.types.specs.declared.thread.ThreadOption.the-variants.{NoThread, SomeThread}
+use Rattle.objects.proofs.Opened.{opens-same}
+use Rattle.types.specs.declared.thread.ThreadOption.the-variants.{NoThread}
 use borrow.Author.Needs.{needs}
 use Rattle.objects.proofs.open.open_current.Statement.{statement}
 use Rattle.objects.proofs.open.open_current.Tie as tie
-use Rattle.objects.proofs.open.open_current.Reads as reads
-use Rattle.objects.proofs.open.open_current.Lts as lts
-use Rattle.objects.proofs.open.open_thread.Reads as open-thread-reads
-use Rattle.objects.proofs.open.there.Reads as there-reads
 
 -- src/open.rt:154:41
 enum-told : tie.Need-enum-told

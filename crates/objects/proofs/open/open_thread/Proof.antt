@@ -6,28 +6,18 @@ use Rattle.sound.specs.Objects.{keptAt}
 use Rattle.codec.specs.Layout.{decAs}
 use Rattle.units.specs.declared.ObjectId.{ObjectId}
 use Rattle.types.specs.declared.object.ObjectStore.{ObjectStore}
-use Rattle.types.specs.declared.object.KObject.the-variants.{Thread, Process}
+use Rattle.types.specs.declared.object.KObject.the-variants.{Thread}
 use Rattle.block.specs.Block.{decBlock}
 use Rattle.object.specs.Slots.{withProcess}
 use Rattle.object.specs.Store.{insert}
 use Rattle.object.specs.Kept.{ofCurrent}
 use Rattle.svc.specs.Call.{withObjects}
 use Rattle.rows.specs.Holds.{Holds}
-use Rattle.objects.specs.Open.{ofProcess}
-use Rattle.objects.proofs.Opened.{opens-same, thread-kept, process-kept, thread-finding, process-finding, opens-refused, opens-process, opens-thread}
-use Rattle.types.specs.declared.thread.ThreadOption.the-variants.{NoThread, SomeThread}
+use Rattle.objects.proofs.Opened.{opens-same, thread-kept, thread-finding, opens-refused, opens-thread}
+use Rattle.types.specs.declared.thread.ThreadOption.the-variants.{SomeThread}
 use borrow.Author.Needs.{needs}
 use Rattle.objects.proofs.open.open_thread.Statement.{statement}
 use Rattle.objects.proofs.open.open_thread.Tie as tie
-use Rattle.objects.proofs.open.open_thread.Reads as reads
-use Rattle.objects.proofs.open.open_thread.Lts as lts
-use Rattle.codec.proofs.get32.Reads as get32-reads
-use Rattle.objects.proofs.open.found_making.Reads as found-making-reads
-use Rattle.objects.proofs.open.kept_after.Reads as kept-after-reads
-use Rattle.objects.proofs.open.put_inserted.Reads as put-inserted-reads
-use Rattle.objects.proofs.open.there.Reads as there-reads
-use Rattle.rows.proofs.read.kept_at.Reads as kept-at-reads
-use Rattle.rows.proofs.write.put_kept.Reads as put-kept-reads
 
 -- src/open.rt:103:9
 kept-at-requires : tie.Need-kept-at-requires

@@ -1,22 +1,10 @@
-use mathlib.Core.Path.{refl, ap, sym, subst, _∙_}
-use mathlib.Core.List.{List}
-use Prim.Native.Nat.{ℕ}
-use native.Mathlib.Omega.{arith}
-use Rattle.block.specs.declared.Head.{Head}
+use mathlib.Core.Path.{_∙_}
 use Rattle.rows.specs.Head.{sound-head}
-use Rattle.rows.specs.Holds.{Holds, holds}
-use Rattle.rows.specs.Rows.{headPut}
+use Rattle.rows.specs.Holds.{holds}
 use Rattle.objects.proofs.Made.{inserted}
 use borrow.Author.Needs.{needs}
 use Rattle.objects.proofs.open.put_inserted.Statement.{statement}
 use Rattle.objects.proofs.open.put_inserted.Tie as tie
-use Rattle.objects.proofs.open.put_inserted.Reads as reads
-use Rattle.objects.proofs.open.put_inserted.Lts as lts
-use Rattle.block.proofs.get_head.Reads as get-head-reads
-use Rattle.rows.proofs.read.slot_at.Reads as slot-at-reads
-use Rattle.rows.proofs.write.put_head.Reads as put-head-reads
-use Rattle.rows.proofs.write.put_slot.Reads as put-slot-reads
-use Rattle.types.proofs.object.next_of.Reads as next-of-reads
 
 -- src/open.rt:37:9
 get-head-requires : tie.Need-get-head-requires

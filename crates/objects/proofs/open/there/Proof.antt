@@ -4,10 +4,6 @@ use Rattle.outcome.specs.Findings.{foundOf, same-finding}
 use borrow.Author.Needs.{needs}
 use Rattle.objects.proofs.open.there.Statement.{statement}
 use Rattle.objects.proofs.open.there.Tie as tie
-use Rattle.objects.proofs.open.there.Reads as reads
-use Rattle.objects.proofs.open.there.Lts as lts
-use Rattle.outcome.proofs.found_of.Reads as found-of-reads
-use Rattle.outcome.proofs.out_of_handles.Reads as out-of-handles-reads
 
 -- src/open.rt:73:41
 out-of-handles-requires : tie.Need-out-of-handles-requires

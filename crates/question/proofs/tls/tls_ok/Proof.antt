@@ -10,11 +10,6 @@ use Rattle.question.specs.SameTls.{once-is}
 use borrow.Author.Needs.{needs}
 use Rattle.question.proofs.tls.tls_ok.Statement.{statement}
 use Rattle.question.proofs.tls.tls_ok.Tie as tie
-use Rattle.question.proofs.tls.tls_ok.Reads as reads
-use Rattle.question.proofs.tls.tls_ok.Lts as lts
-use Rattle.question.proofs.tls.below_ok.Reads as below-ok-reads
-use Rattle.question.proofs.tls.once_ok.Reads as once-ok-reads
-use Rattle.tally.proofs.tally_tls.Reads as tally-tls-reads
 
 returns : tie.Need-returns
 unfolding tls?

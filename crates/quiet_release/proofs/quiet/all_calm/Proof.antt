@@ -7,7 +7,8 @@ use borrow.Author.Tests.{not-true, not-false}
 use Rattle.types.specs.declared.thread.Thread.{Thread}
 use Rattle.block.specs.Block.{decBlock}
 use Rattle.pass.specs.Asks.{calm, calmFrom}
-use Rattle.due.proofs.Looked.{thread-is, size-threads}
+use Rattle.rows.specs.Sizes.{size-threads}
+use Rattle.due.proofs.Looked.{thread-is}
 use Rattle.quiet_release.proofs.Calm.{calm-no, calm-yes, calm-end}
 use Rattle.quiet_release.proofs.quiet.all_calm.Statement.{statement}
 use Rattle.quiet_release.proofs.quiet.all_calm.Tie as tie

@@ -5,7 +5,7 @@ use borrow.Author.Needs.{needs}
 use Rattle.types.specs.declared.thread.Thread.{Thread}
 use Rattle.block.specs.Block.{decBlock}
 use Rattle.pass.specs.Asks.{calmFrom}
-use Rattle.due.proofs.Looked.{size-threads}
+use Rattle.rows.specs.Sizes.{size-threads}
 use Rattle.quiet_release.specs.Alone.{alone}
 use Rattle.quiet_release.proofs.Calm.{not-alone, no-thread, some-due, not-calm, quiet}
 use Rattle.quiet_release.proofs.quiet.frees_at.Statement.{statement}

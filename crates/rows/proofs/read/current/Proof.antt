@@ -5,10 +5,6 @@ use Rattle.block.specs.Block.{decBlock}
 use borrow.Author.Needs.{needs}
 use Rattle.rows.proofs.read.current.Statement.{statement}
 use Rattle.rows.proofs.read.current.Tie as tie
-use Rattle.rows.proofs.read.current.Reads as reads
-use Rattle.rows.proofs.read.current.Lts as lts
-use Rattle.codec.proofs.get32.Reads as get32-reads
-use Rattle.types.proofs.thread.thread_option.Reads as thread-option-reads
 
 -- src/read.rt:21:34
 get32-requires : tie.Need-get32-requires

@@ -1,4 +1,4 @@
-use mathlib.Core.Path.{ap, sym, _∙_}
+use mathlib.Core.Path.{ap, _∙_}
 use Rattle.block.specs.Block.{decBlock}
 use native.Mathlib.Omega.{arith}
 use Rattle.codec.proofs.Fit.{length-decAll}
@@ -9,9 +9,6 @@ use Rattle.object.proofs.Laws.{kept-far, kept-in}
 use borrow.Author.Needs.{needs}
 use Rattle.rows.proofs.read.kept_at.Statement.{statement}
 use Rattle.rows.proofs.read.kept_at.Tie as tie
-use Rattle.rows.proofs.read.kept_at.Reads as reads
-use Rattle.rows.proofs.read.kept_at.Lts as lts
-use Rattle.block.proofs.record.kept_at.Reads as kept-at-reads
 
 -- src/read.rt:59:9
 returns : tie.Need-returns

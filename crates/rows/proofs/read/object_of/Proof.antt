@@ -1,4 +1,4 @@
-use mathlib.Core.Path.{_≡_, ap, sym, _∙_}
+use mathlib.Core.Path.{ap, sym, _∙_}
 use native.Mathlib.Omega.{arith}
 use Prim.Native.Nat.{_≤_}
 use lib.ListN.{length, getD, List·getD-eq-default}
@@ -7,14 +7,10 @@ use Rattle.types.specs.declared.object.HandleEntry.{HandleEntry}
 use Rattle.block.specs.Block.{decBlock}
 use Rattle.block.specs.Table.{decEntry}
 use Rattle.block.specs.Tables.{row-at, entriesIn}
-use Rattle.object.specs.Handles.{objectOf, placeOf, noEntry}
+use Rattle.object.specs.Handles.{objectOf, noEntry}
 use borrow.Author.Needs.{needs}
 use Rattle.rows.proofs.read.object_of.Statement.{statement}
 use Rattle.rows.proofs.read.object_of.Tie as tie
-use Rattle.rows.proofs.read.object_of.Reads as reads
-use Rattle.rows.proofs.read.object_of.Lts as lts
-use Rattle.block.proofs.record.entry_at.Reads as entry-at-reads
-use Rattle.rows.proofs.read.place_of.Reads as place-of-reads
 
 -- src/read.rt:86:9
 place-of-requires : tie.Need-place-of-requires

@@ -1,7 +1,7 @@
 use mathlib.Core.Path.{_≡_, ap, sym, _∙_}
-use Prim.Native.Nat.{ℕ, _+_, _-_, _≤_}
+use Prim.Native.Nat.{_+_, _-_, _≤_}
 use native.Mathlib.Omega.{arith}
-use lib.ListN.{length, drop}
+use lib.ListN.{drop}
 use Rattle.codec.proofs.Fit.{length-decAll}
 use Rattle.types.specs.declared.object.HandleEntry.{HandleEntry}
 use Rattle.block.specs.Block.{decBlock}
@@ -12,9 +12,6 @@ use Rattle.object.proofs.Laws.{place-hit, place-miss, place-end}
 use borrow.Author.Needs.{needs}
 use Rattle.rows.proofs.read.place_of.Statement.{statement}
 use Rattle.rows.proofs.read.place_of.Tie as tie
-use Rattle.rows.proofs.read.place_of.Reads as reads
-use Rattle.rows.proofs.read.place_of.Lts as lts
-use Rattle.block.proofs.record.entry_at.Reads as entry-at-reads
 
 abbrev Inv-loop : tie.InvT-loop
 Inv-loop b h i₀ i = (i ≤ 256) × (i + placeOf (drop i (entriesIn b)) h ≡ placeOf (entriesIn b) h)

@@ -11,12 +11,6 @@ use lib.ListN.{getD}
 use borrow.Author.Needs.{needs}
 use Rattle.rows.proofs.read.slot_at.Statement.{statement}
 use Rattle.rows.proofs.read.slot_at.Tie as tie
-use Rattle.rows.proofs.read.slot_at.Reads as reads
-use Rattle.rows.proofs.read.slot_at.Lts as lts
-use Rattle.block.proofs.record.slot_at.Reads as slot-at-reads
-use Rattle.rows.proofs.read.no_slot.Reads as no-slot-reads
-use Rattle.tally.proofs.place.is_slot.Reads as is-slot-reads
-use Rattle.tally.proofs.place.slot_index.Reads as slot-index-reads
 
 -- src/read.rt:47:9
 is-slot-requires : tie.Need-is-slot-requires

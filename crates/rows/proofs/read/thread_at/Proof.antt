@@ -6,9 +6,6 @@ use mathlib.Core.Path.{_∙_}
 use borrow.Author.Needs.{needs}
 use Rattle.rows.proofs.read.thread_at.Statement.{statement}
 use Rattle.rows.proofs.read.thread_at.Tie as tie
-use Rattle.rows.proofs.read.thread_at.Reads as reads
-use Rattle.rows.proofs.read.thread_at.Lts as lts
-use Rattle.block.proofs.record.thread_at.Reads as thread-at-reads
 
 -- src/read.rt:29:5
 thread-at-requires : tie.Need-thread-at-requires

@@ -8,9 +8,6 @@ use Rattle.rows.specs.Rows.{entryPut}
 use borrow.Author.Needs.{needs}
 use Rattle.rows.proofs.write.put_entry.Statement.{statement}
 use Rattle.rows.proofs.write.put_entry.Tie as tie
-use Rattle.rows.proofs.write.put_entry.Reads as reads
-use Rattle.rows.proofs.write.put_entry.Lts as lts
-use Rattle.block.proofs.table.put_entry.Reads as put-entry-reads
 
 -- src/write.rt:40:9
 returns : tie.Need-returns

@@ -5,9 +5,6 @@ use Rattle.rows.specs.Rows.{headPut}
 use borrow.Author.Needs.{needs}
 use Rattle.rows.proofs.write.put_head.Statement.{statement}
 use Rattle.rows.proofs.write.put_head.Tie as tie
-use Rattle.rows.proofs.write.put_head.Reads as reads
-use Rattle.rows.proofs.write.put_head.Lts as lts
-use Rattle.block.proofs.put_head.Reads as put-head-reads
 
 -- src/write.rt:61:21
 sub-put-head : tie.Need-sub-put-head

@@ -8,9 +8,6 @@ use Rattle.rows.specs.Rows.{keptPut}
 use borrow.Author.Needs.{needs}
 use Rattle.rows.proofs.write.put_kept.Statement.{statement}
 use Rattle.rows.proofs.write.put_kept.Tie as tie
-use Rattle.rows.proofs.write.put_kept.Reads as reads
-use Rattle.rows.proofs.write.put_kept.Lts as lts
-use Rattle.block.proofs.table.put_id.Reads as put-id-reads
 
 -- src/write.rt:51:9
 returns : tie.Need-returns

@@ -9,11 +9,6 @@ use Rattle.rows.specs.Rows.{slotPut}
 use borrow.Author.Needs.{needs}
 use Rattle.rows.proofs.write.put_slot.Statement.{statement}
 use Rattle.rows.proofs.write.put_slot.Tie as tie
-use Rattle.rows.proofs.write.put_slot.Reads as reads
-use Rattle.rows.proofs.write.put_slot.Lts as lts
-use Rattle.block.proofs.slot.put_slot.Reads as put-slot-reads
-use Rattle.tally.proofs.place.is_slot.Reads as is-slot-reads
-use Rattle.tally.proofs.place.slot_index.Reads as slot-index-reads
 
 -- src/write.rt:28:9
 is-slot-requires : tie.Need-is-slot-requires

@@ -8,9 +8,6 @@ use Rattle.rows.specs.Rows.{threadPut}
 use borrow.Author.Needs.{needs}
 use Rattle.rows.proofs.write.put_thread.Statement.{statement}
 use Rattle.rows.proofs.write.put_thread.Tie as tie
-use Rattle.rows.proofs.write.put_thread.Reads as reads
-use Rattle.rows.proofs.write.put_thread.Lts as lts
-use Rattle.block.proofs.thread.put_thread.Reads as put-thread-reads
 
 -- src/write.rt:17:9
 returns : tie.Need-returns

@@ -1,10 +1,8 @@
-use mathlib.Core.Path.{_≡_, refl, ap, sym, _∙_}
+use mathlib.Core.Path.{_≡_, sym, _∙_}
 use Rattle.block.specs.Block.{decBlock}
 use Rattle.rows.specs.Holds.{holds}
 use Prim.Native.Nat.{ℕ}
-use lib.Dec.{eqb}
 use borrow.Author.Tests.{eq-eqb, ne-eqb}
-use Rattle.laws.specs.Logic.{pick}
 use Rattle.types.specs.declared.kernel.Kernel.{Kernel}
 use Rattle.pass.specs.Signal as sig
 use Rattle.svc.specs.declared.Served.{Served}
@@ -16,13 +14,6 @@ use Rattle.sync_calls.proofs.Found.{clearEvent-finding}
 use borrow.Author.Needs.{needs}
 use Rattle.sync_calls.proofs.event.clear_event.Statement.{statement}
 use Rattle.sync_calls.proofs.event.clear_event.Tie as tie
-use Rattle.sync_calls.proofs.event.clear_event.Reads as reads
-use Rattle.sync_calls.proofs.event.clear_event.Lts as lts
-use Rattle.objects.proofs.open.open.Reads as open-reads
-use Rattle.outcome.proofs.answers.Reads as answers-reads
-use Rattle.outcome.proofs.done.Reads as done-reads
-use Rattle.outcome.proofs.refused.Reads as refused-reads
-use Rattle.sync_calls.proofs.event.put_cleared.Reads as put-cleared-reads
 
 abbrev after : Kernel → ℕ → Kernel
 after k o = withObjects k (sig.clearEvent (k .objects) o)

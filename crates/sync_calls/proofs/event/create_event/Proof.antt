@@ -2,10 +2,6 @@ use Rattle.svc.specs.Sync.{createEvent}
 use borrow.Author.Needs.{needs}
 use Rattle.sync_calls.proofs.event.create_event.Statement.{statement}
 use Rattle.sync_calls.proofs.event.create_event.Tie as tie
-use Rattle.sync_calls.proofs.event.create_event.Reads as reads
-use Rattle.sync_calls.proofs.event.create_event.Lts as lts
-use Rattle.objects.proofs.create.create_object.Reads as create-object-reads
-use Rattle.types.proofs.sync.reset_from_raw.Reads as reset-from-raw-reads
 
 -- src/event.rt:30:9
 reset-from-raw-requires : tie.Need-reset-from-raw-requires

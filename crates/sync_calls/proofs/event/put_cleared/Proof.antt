@@ -1,16 +1,10 @@
-use mathlib.Core.Path.{_≡_, refl, ap, sym, _∙_}
-use Rattle.block.specs.Block.{decBlock}
+use mathlib.Core.Path.{refl}
 use Rattle.rows.specs.Holds.{holds}
 use Rattle.pass.specs.Signal as sig
 use Rattle.sync_calls.proofs.Found.{put-content}
 use borrow.Author.Needs.{needs}
 use Rattle.sync_calls.proofs.event.put_cleared.Statement.{statement}
 use Rattle.sync_calls.proofs.event.put_cleared.Tie as tie
-use Rattle.sync_calls.proofs.event.put_cleared.Reads as reads
-use Rattle.sync_calls.proofs.event.put_cleared.Lts as lts
-use Rattle.objects.proofs.change.content.Reads as content-reads
-use Rattle.rows.proofs.read.slot_at.Reads as slot-at-reads
-use Rattle.signal.proofs.event.cleared_event.Reads as cleared-event-reads
 
 -- src/event.rt:92:9
 slot-at-requires : tie.Need-slot-at-requires

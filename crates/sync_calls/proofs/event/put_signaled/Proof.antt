@@ -1,17 +1,8 @@
-use mathlib.Core.Path.{_≡_, refl, ap, sym, _∙_}
-use Rattle.block.specs.Block.{decBlock}
-use Rattle.rows.specs.Holds.{holds}
-use Rattle.rows.specs.Holds.{put-slot}
+use Rattle.rows.specs.Holds.{holds, put-slot}
 use Rattle.pass.specs.Signal as sig
 use borrow.Author.Needs.{needs}
 use Rattle.sync_calls.proofs.event.put_signaled.Statement.{statement}
 use Rattle.sync_calls.proofs.event.put_signaled.Tie as tie
-use Rattle.sync_calls.proofs.event.put_signaled.Reads as reads
-use Rattle.sync_calls.proofs.event.put_signaled.Lts as lts
-use Rattle.rows.proofs.read.slot_at.Reads as slot-at-reads
-use Rattle.rows.proofs.write.put_slot.Reads as put-slot-reads
-use Rattle.signal.proofs.event.signaled_slot.Reads as signaled-slot-reads
-use Rattle.sync_calls.proofs.event.waited_sync.Reads as waited-sync-reads
 
 -- src/event.rt:62:9
 waited-sync-requires : tie.Need-waited-sync-requires

@@ -16,10 +16,6 @@ use Rattle.signal.proofs.Steps.{any-step, any-end}
 use borrow.Author.Needs.{needs}
 use Rattle.sync_calls.proofs.event.waited_sync.Statement.{statement}
 use Rattle.sync_calls.proofs.event.waited_sync.Tie as tie
-use Rattle.sync_calls.proofs.event.waited_sync.Reads as reads
-use Rattle.sync_calls.proofs.event.waited_sync.Lts as lts
-use Rattle.rows.proofs.read.thread_at.Reads as thread-at-reads
-use Rattle.signal.proofs.event.waits_on.Reads as waits-on-reads
 
 abbrev Inv-loop : tie.InvT-loop
 Inv-loop block o i₀ i = (i ≤ 32) × (waitedSync (drop i (threadsIn block)) o ≡ waitedSync (threadsIn block) o)

@@ -2,11 +2,6 @@ use Rattle.svc.specs.Sync.{createMutex}
 use borrow.Author.Needs.{needs}
 use Rattle.sync_calls.proofs.mutex.create_mutex.Statement.{statement}
 use Rattle.sync_calls.proofs.mutex.create_mutex.Tie as tie
-use Rattle.sync_calls.proofs.mutex.create_mutex.Reads as reads
-use Rattle.sync_calls.proofs.mutex.create_mutex.Lts as lts
-use Rattle.objects.proofs.create.create_object.Reads as create-object-reads
-use Rattle.rows.proofs.read.current.Reads as current-reads
-use Rattle.sync_calls.proofs.mutex.new_mutex.Reads as new-mutex-reads
 
 -- src/mutex.rt:47:9
 current-requires : tie.Need-current-requires

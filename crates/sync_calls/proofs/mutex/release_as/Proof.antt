@@ -1,16 +1,8 @@
-use mathlib.Core.Path.{_≡_, refl, ap, sym, _∙_}
-use Rattle.block.specs.Block.{decBlock}
 use Rattle.rows.specs.Holds.{holds}
 use Rattle.sync_calls.proofs.Found.{put-content}
 use borrow.Author.Needs.{needs}
 use Rattle.sync_calls.proofs.mutex.release_as.Statement.{statement}
 use Rattle.sync_calls.proofs.mutex.release_as.Tie as tie
-use Rattle.sync_calls.proofs.mutex.release_as.Reads as reads
-use Rattle.sync_calls.proofs.mutex.release_as.Lts as lts
-use Rattle.objects.proofs.change.content.Reads as content-reads
-use Rattle.outcome.proofs.answers.Reads as answers-reads
-use Rattle.outcome.proofs.done.Reads as done-reads
-use Rattle.sync_calls.proofs.mutex.unlocked.Reads as unlocked-reads
 
 -- src/mutex.rt:78:23
 enum-known-y : tie.Need-enum-known-y

@@ -1,25 +1,16 @@
-use mathlib.Core.Path.{_≡_, refl, ap, sym, _∙_}
+use mathlib.Core.Path.{_≡_, ap, _∙_}
 use Rattle.block.specs.Block.{decBlock}
-use Rattle.rows.specs.Holds.{holds}
 use Rattle.types.specs.declared.object.Slot.{Slot}
-use Rattle.types.specs.declared.object.KObject.{KObject}
 use Rattle.sound.specs.View.{objectAt}
 use Rattle.svc.specs.declared.Served.{Served}
 use Rattle.svc.specs.Sync.{releaseMutexAs, releaseMutex}
 use Rattle.objects.proofs.Sound.{opened-state}
 use Rattle.objects.proofs.Calls.{refused-call, accepted-call}
-use Rattle.sync_calls.proofs.Found.{mutex-finding}
 use Rattle.svc.specs.Call.{resolved}
 use Rattle.sync_calls.proofs.Found.{releaseMutex-finding}
 use borrow.Author.Needs.{needs}
 use Rattle.sync_calls.proofs.mutex.release_mutex.Statement.{statement}
 use Rattle.sync_calls.proofs.mutex.release_mutex.Tie as tie
-use Rattle.sync_calls.proofs.mutex.release_mutex.Reads as reads
-use Rattle.sync_calls.proofs.mutex.release_mutex.Lts as lts
-use Rattle.objects.proofs.open.open.Reads as open-reads
-use Rattle.outcome.proofs.refused.Reads as refused-reads
-use Rattle.rows.proofs.read.slot_at.Reads as slot-at-reads
-use Rattle.sync_calls.proofs.mutex.release_as.Reads as release-as-reads
 
 -- src/mutex.rt:100:9
 open-requires : tie.Need-open-requires

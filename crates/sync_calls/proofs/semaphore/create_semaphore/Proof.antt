@@ -2,9 +2,6 @@ use Rattle.svc.specs.Sync.{createSemaphore}
 use borrow.Author.Needs.{needs}
 use Rattle.sync_calls.proofs.semaphore.create_semaphore.Statement.{statement}
 use Rattle.sync_calls.proofs.semaphore.create_semaphore.Tie as tie
-use Rattle.sync_calls.proofs.semaphore.create_semaphore.Reads as reads
-use Rattle.sync_calls.proofs.semaphore.create_semaphore.Lts as lts
-use Rattle.objects.proofs.create.create_object.Reads as create-object-reads
 
 -- src/semaphore.rt:30:5
 create-object-requires : tie.Need-create-object-requires

@@ -1,4 +1,4 @@
-use mathlib.Core.Path.{_≡_, refl, ap, sym, _∙_}
+use mathlib.Core.Path.{sym, _∙_}
 use Rattle.block.specs.Block.{decBlock}
 use Rattle.rows.specs.Holds.{holds}
 use native.Mathlib.Omega.{arith}
@@ -7,14 +7,6 @@ use Rattle.sync_calls.proofs.Found.{put-content, semaphore-over, semaph
 use borrow.Author.Needs.{needs}
 use Rattle.sync_calls.proofs.semaphore.release_as.Statement.{statement}
 use Rattle.sync_calls.proofs.semaphore.release_as.Tie as tie
-use Rattle.sync_calls.proofs.semaphore.release_as.Reads as reads
-use Rattle.sync_calls.proofs.semaphore.release_as.Lts as lts
-use Rattle.objects.proofs.change.content.Reads as content-reads
-use Rattle.outcome.proofs.answers.Reads as answers-reads
-use Rattle.outcome.proofs.gives.Reads as gives-reads
-use Rattle.outcome.proofs.refused.Reads as refused-reads
-use Rattle.sync_calls.proofs.semaphore.released_semaphore.Reads as released-semaphore-reads
-use Rattle.sync_calls.proofs.semaphore.sum_over.Reads as sum-over-reads
 
 -- src/semaphore.rt:98:23
 enum-known-y : tie.Need-enum-known-y

@@ -1,26 +1,18 @@
-use mathlib.Core.Path.{_≡_, refl, ap, sym, _∙_}
+use mathlib.Core.Path.{_≡_, ap, sym, _∙_}
 use Rattle.block.specs.Block.{decBlock}
-use Rattle.rows.specs.Holds.{holds}
 use Rattle.types.specs.declared.object.Slot.{Slot}
-use Rattle.types.specs.declared.object.KObject.{KObject}
 use Rattle.sound.specs.View.{objectAt}
 use Rattle.svc.specs.declared.Served.{Served}
 use Rattle.svc.specs.Call.{resolved, withObjects}
 use Rattle.svc.specs.Sync.{releaseSemaphoreAs, releaseSemaphore}
 use Rattle.lent.specs.Operations.{finding}
-use Rattle.outcome.specs.Outcome.{outcome, left, outcome-found, left-found}
+use Rattle.outcome.specs.Outcome.{outcome, left}
 use Rattle.objects.proofs.Sound.{opened-state}
 use Rattle.objects.proofs.Pseudo.{unmade}
 use Rattle.sync_calls.proofs.Found.{left-same, refused-semaphore}
 use borrow.Author.Needs.{needs}
 use Rattle.sync_calls.proofs.semaphore.release_semaphore.Statement.{statement}
 use Rattle.sync_calls.proofs.semaphore.release_semaphore.Tie as tie
-use Rattle.sync_calls.proofs.semaphore.release_semaphore.Reads as reads
-use Rattle.sync_calls.proofs.semaphore.release_semaphore.Lts as lts
-use Rattle.objects.proofs.open.open.Reads as open-reads
-use Rattle.outcome.proofs.refused.Reads as refused-reads
-use Rattle.rows.proofs.read.slot_at.Reads as slot-at-reads
-use Rattle.sync_calls.proofs.semaphore.release_as.Reads as release-as-reads
 
 -- src/semaphore.rt:123:9
 open-requires : tie.Need-open-requires

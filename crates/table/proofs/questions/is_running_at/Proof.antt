@@ -10,10 +10,6 @@ use Rattle.pick.proofs.Steps.{far}
 use borrow.Author.Needs.{needs}
 use Rattle.table.proofs.questions.is_running_at.Statement.{statement}
 use Rattle.table.proofs.questions.is_running_at.Tie as tie
-use Rattle.table.proofs.questions.is_running_at.Reads as reads
-use Rattle.table.proofs.questions.is_running_at.Lts as lts
-use Rattle.pick.proofs.is_running.Reads as is-running-reads
-use Rattle.rows.proofs.read.thread_at.Reads as thread-at-reads
 
 -- src/questions.rt:36:9
 returns : tie.Need-returns

@@ -1,13 +1,7 @@
-use mathlib.Core.Path.{ap, _∙_}
-use Rattle.types.specs.declared.thread.ThreadOption.{ThreadOption}
 use Rattle.svc.specs.Dispatch as def
 use borrow.Author.Needs.{needs}
 use Rattle.table.proofs.questions.runs.Statement.{statement}
 use Rattle.table.proofs.questions.runs.Tie as tie
-use Rattle.table.proofs.questions.runs.Reads as reads
-use Rattle.table.proofs.questions.runs.Lts as lts
-use Rattle.rows.proofs.read.current.Reads as current-reads
-use Rattle.table.proofs.questions.runs_as.Reads as runs-as-reads
 
 -- src/questions.rt:58:9
 current-requires : tie.Need-current-requires

@@ -1,9 +1,6 @@
 use borrow.Author.Needs.{needs}
 use Rattle.table.proofs.questions.runs_as.Statement.{statement}
 use Rattle.table.proofs.questions.runs_as.Tie as tie
-use Rattle.table.proofs.questions.runs_as.Reads as reads
-use Rattle.table.proofs.questions.runs_as.Lts as lts
-use Rattle.table.proofs.questions.is_running_at.Reads as is-running-at-reads
 
 -- src/questions.rt:48:35
 enum-told : tie.Need-enum-told

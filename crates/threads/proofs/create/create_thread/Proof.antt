@@ -1,5 +1,4 @@
-use mathlib.Core.Path.{_≡_, ap, sym, subst, _∙_}
-use Prim.Native.Nat.{_<_}
+use mathlib.Core.Path.{ap, sym, _∙_}
 use native.Mathlib.Omega.{arith}
 use Rattle.codec.specs.Layout.{decAs}
 use Rattle.block.specs.Block.{decBlock}
@@ -10,16 +9,6 @@ use Rattle.threads.proofs.Made.{made-finding, place, sound-made, kept-m
 use borrow.Author.Needs.{needs}
 use Rattle.threads.proofs.create.create_thread.Statement.{statement}
 use Rattle.threads.proofs.create.create_thread.Tie as tie
-use Rattle.threads.proofs.create.create_thread.Reads as reads
-use Rattle.threads.proofs.create.create_thread.Lts as lts
-use Rattle.codec.proofs.get32.Reads as get32-reads
-use Rattle.outcome.proofs.gives.Reads as gives-reads
-use Rattle.outcome.proofs.refused.Reads as refused-reads
-use Rattle.spawn.proofs.put_created.Reads as put-created-reads
-use Rattle.threads.proofs.create.found_making.Reads as found-making-reads
-use Rattle.threads.proofs.create.put_handle.Reads as put-handle-reads
-use Rattle.vacant.proofs.ended_thread.Reads as ended-thread-reads
-use Rattle.vacant.proofs.tls_slot.Reads as tls-slot-reads
 
 -- src/create.rt:113:9
 ended-thread-requires : tie.Need-ended-thread-requires

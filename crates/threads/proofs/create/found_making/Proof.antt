@@ -7,12 +7,6 @@ use Rattle.outcome.specs.Findings.{foundOf}
 use borrow.Author.Needs.{needs}
 use Rattle.threads.proofs.create.found_making.Statement.{statement}
 use Rattle.threads.proofs.create.found_making.Tie as tie
-use Rattle.threads.proofs.create.found_making.Reads as reads
-use Rattle.threads.proofs.create.found_making.Lts as lts
-use Rattle.codec.proofs.get32.Reads as get32-reads
-use Rattle.object.proofs.handles.either.Reads as either-reads
-use Rattle.outcome.proofs.found_of.Reads as found-of-reads
-use Rattle.threads.proofs.create.no_slot.Reads as no-slot-reads
 
 -- src/create.rt:48:9
 no-slot-requires : tie.Need-no-slot-requires

@@ -10,10 +10,6 @@ use Rattle.threads.proofs.Forgotten.{made-free}
 use borrow.Author.Needs.{needs}
 use Rattle.threads.proofs.create.no_slot.Statement.{statement}
 use Rattle.threads.proofs.create.no_slot.Tie as tie
-use Rattle.threads.proofs.create.no_slot.Reads as reads
-use Rattle.threads.proofs.create.no_slot.Lts as lts
-use Rattle.codec.proofs.get32.Reads as get32-reads
-use Rattle.rows.proofs.read.kept_at.Reads as kept-at-reads
 
 -- src/create.rt:35:9
 kept-at-requires : tie.Need-kept-at-requires

@@ -1,24 +1,14 @@
-use mathlib.Core.Path.{ap, sym, _∙_}
+use mathlib.Core.Path.{ap, _∙_}
 use native.Mathlib.Omega.{arith}
 use Rattle.block.specs.declared.Head.{Head}
 use Rattle.block.specs.Block.{decBlock}
 use Rattle.sound.specs.Question.{t-block}
 use Rattle.rows.specs.Head.{sound-head}
-use Rattle.rows.specs.Rows.{slotPut, keptPut, entryPut, headPut}
 use Rattle.rows.specs.Holds.{holds}
 use Rattle.threads.proofs.Handle.{handled}
 use borrow.Author.Needs.{needs}
 use Rattle.threads.proofs.create.put_handle.Statement.{statement}
 use Rattle.threads.proofs.create.put_handle.Tie as tie
-use Rattle.threads.proofs.create.put_handle.Reads as reads
-use Rattle.threads.proofs.create.put_handle.Lts as lts
-use Rattle.block.proofs.get_head.Reads as get-head-reads
-use Rattle.rows.proofs.read.slot_at.Reads as slot-at-reads
-use Rattle.rows.proofs.write.put_entry.Reads as put-entry-reads
-use Rattle.rows.proofs.write.put_head.Reads as put-head-reads
-use Rattle.rows.proofs.write.put_kept.Reads as put-kept-reads
-use Rattle.rows.proofs.write.put_slot.Reads as put-slot-reads
-use Rattle.types.proofs.object.next_of.Reads as next-of-reads
 
 -- src/create.rt:68:9
 get-head-requires : tie.Need-get-head-requires

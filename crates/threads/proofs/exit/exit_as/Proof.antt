@@ -1,9 +1,7 @@
 use mathlib.Core.Path.{ap, sym, subst, _∙_}
 use mathlib.Core.Bool.{false}
 use Rattle.types.specs.declared.thread.ThreadOption.{ThreadOption}
-use Rattle.block.specs.Block.{decBlock}
 use Rattle.sound.specs.Threads.{CurrentOk}
-use Rattle.svc.specs.Threads.{exitAs}
 use Rattle.rows.specs.Holds.{holds}
 use Rattle.outcome.specs.Outcome.{outcome-0, outcome-found, left-0, left-found}
 use Rattle.outcome.specs.Findings.{foundOf}
@@ -11,13 +9,6 @@ use Rattle.threads.proofs.Found.{exit-finding}
 use borrow.Author.Needs.{needs}
 use Rattle.threads.proofs.exit.exit_as.Statement.{statement}
 use Rattle.threads.proofs.exit.exit_as.Tie as tie
-use Rattle.threads.proofs.exit.exit_as.Reads as reads
-use Rattle.threads.proofs.exit.exit_as.Lts as lts
-use Rattle.ending.proofs.put_ended.Reads as put-ended-reads
-use Rattle.outcome.proofs.found_of.Reads as found-of-reads
-use Rattle.outcome.proofs.out_of_handles.Reads as out-of-handles-reads
-use Rattle.outcome.proofs.refused.Reads as refused-reads
-use Rattle.outcome.proofs.silent.Reads as silent-reads
 
 -- src/exit.rt:22:42
 out-of-handles-requires : tie.Need-out-of-handles-requires

@@ -9,10 +9,6 @@ use Rattle.outcome.specs.Outcome.{outcome, left}
 use borrow.Author.Needs.{needs}
 use Rattle.threads.proofs.exit.exit_thread.Statement.{statement}
 use Rattle.threads.proofs.exit.exit_thread.Tie as tie
-use Rattle.threads.proofs.exit.exit_thread.Reads as reads
-use Rattle.threads.proofs.exit.exit_thread.Lts as lts
-use Rattle.rows.proofs.read.current.Reads as current-reads
-use Rattle.threads.proofs.exit.exit_as.Reads as exit-as-reads
 
 -- src/exit.rt:42:9
 current-requires : tie.Need-current-requires

@@ -3,12 +3,6 @@ use Rattle.rows.specs.Rows.{threadPut}
 use borrow.Author.Needs.{needs}
 use Rattle.threads.proofs.priority.put_priority.Statement.{statement}
 use Rattle.threads.proofs.priority.put_priority.Tie as tie
-use Rattle.threads.proofs.priority.put_priority.Reads as reads
-use Rattle.threads.proofs.priority.put_priority.Lts as lts
-use Rattle.rows.proofs.read.thread_at.Reads as thread-at-reads
-use Rattle.rows.proofs.write.put_thread.Reads as put-thread-reads
-use Rattle.thread.proofs.places.least_of.Reads as least-of-reads
-use Rattle.thread.proofs.priority.with_priority.Reads as with-priority-reads
 
 -- src/priority.rt:59:9
 returns : tie.Need-returns

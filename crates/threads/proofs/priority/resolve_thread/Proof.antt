@@ -2,12 +2,6 @@ use borrow.Author.Tests.{eq-eqb, ne-eqb}
 use borrow.Author.Needs.{needs}
 use Rattle.threads.proofs.priority.resolve_thread.Statement.{statement}
 use Rattle.threads.proofs.priority.resolve_thread.Tie as tie
-use Rattle.threads.proofs.priority.resolve_thread.Reads as reads
-use Rattle.threads.proofs.priority.resolve_thread.Lts as lts
-use Rattle.rows.proofs.read.current.Reads as current-reads
-use Rattle.rows.proofs.read.object_of.Reads as object-of-reads
-use Rattle.rows.proofs.read.slot_at.Reads as slot-at-reads
-use Rattle.threads.proofs.priority.thread_named.Reads as thread-named-reads
 
 -- src/priority.rt:45:9
 current-requires : tie.Need-current-requires

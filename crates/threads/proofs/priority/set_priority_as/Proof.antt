@@ -1,8 +1,6 @@
 use mathlib.Core.Path.{ap, sym, _∙_}
 use mathlib.Core.Bool.{false}
-use Rattle.block.specs.Block.{decBlock}
 use Rattle.thread.specs.Threads.{setPriority}
-use Rattle.svc.specs.Threads.{setPriorityAs}
 use Rattle.rows.specs.Holds.{holds, put-thread}
 use Rattle.outcome.specs.Outcome.{outcome-0, outcome-found, left-0, left-found}
 use Rattle.outcome.specs.Findings.{foundOf}
@@ -10,14 +8,6 @@ use Rattle.threads.proofs.Found.{priority-finding}
 use borrow.Author.Needs.{needs}
 use Rattle.threads.proofs.priority.set_priority_as.Statement.{statement}
 use Rattle.threads.proofs.priority.set_priority_as.Tie as tie
-use Rattle.threads.proofs.priority.set_priority_as.Reads as reads
-use Rattle.threads.proofs.priority.set_priority_as.Lts as lts
-use Rattle.outcome.proofs.answers.Reads as answers-reads
-use Rattle.outcome.proofs.done.Reads as done-reads
-use Rattle.outcome.proofs.found_of.Reads as found-of-reads
-use Rattle.outcome.proofs.out_of_handles.Reads as out-of-handles-reads
-use Rattle.outcome.proofs.refused.Reads as refused-reads
-use Rattle.threads.proofs.priority.put_priority.Reads as put-priority-reads
 
 -- src/priority.rt:75:42
 out-of-handles-requires : tie.Need-out-of-handles-requires

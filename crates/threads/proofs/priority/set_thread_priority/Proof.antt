@@ -2,10 +2,6 @@ use Rattle.svc.specs.Threads.{setThreadPriority}
 use borrow.Author.Needs.{needs}
 use Rattle.threads.proofs.priority.set_thread_priority.Statement.{statement}
 use Rattle.threads.proofs.priority.set_thread_priority.Tie as tie
-use Rattle.threads.proofs.priority.set_thread_priority.Reads as reads
-use Rattle.threads.proofs.priority.set_thread_priority.Lts as lts
-use Rattle.threads.proofs.priority.resolve_thread.Reads as resolve-thread-reads
-use Rattle.threads.proofs.priority.set_priority_as.Reads as set-priority-as-reads
 
 -- src/priority.rt:94:9
 resolve-thread-requires : tie.Need-resolve-thread-requires

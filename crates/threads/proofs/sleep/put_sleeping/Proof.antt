@@ -1,19 +1,8 @@
-use mathlib.Core.Path.{_≡_, refl, ap, sym, _∙_}
-use mathlib.Core.List.{List}
-use borrow.Author.Tests.{eq-eqb, ne-eqb, le-ltb}
-use Rattle.types.specs.declared.thread.Thread.{Thread}
-use Rattle.types.specs.declared.thread.ThreadOption.{ThreadOption}
-use Rattle.types.specs.declared.thread.TickOption.{TickOption}
-use Rattle.block.specs.Block.{decBlock}
+use borrow.Author.Tests.{le-ltb}
 use Rattle.rows.specs.Rows.{threadPut}
 use borrow.Author.Needs.{needs}
 use Rattle.threads.proofs.sleep.put_sleeping.Statement.{statement}
 use Rattle.threads.proofs.sleep.put_sleeping.Tie as tie
-use Rattle.threads.proofs.sleep.put_sleeping.Reads as reads
-use Rattle.threads.proofs.sleep.put_sleeping.Lts as lts
-use Rattle.begin.proofs.sleeping.Reads as sleeping-reads
-use Rattle.rows.proofs.read.thread_at.Reads as thread-at-reads
-use Rattle.rows.proofs.write.put_thread.Reads as put-thread-reads
 
 -- src/sleep.rt:48:9
 returns : tie.Need-returns

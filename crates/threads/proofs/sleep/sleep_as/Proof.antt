@@ -1,19 +1,10 @@
-use mathlib.Core.Path.{_≡_, refl, ap, sym, _∙_}
-use mathlib.Core.List.{List}
-use borrow.Author.Tests.{eq-eqb, ne-eqb, le-ltb}
-use Rattle.types.specs.declared.thread.Thread.{Thread}
-use Rattle.types.specs.declared.thread.ThreadOption.{ThreadOption}
-use Rattle.types.specs.declared.thread.TickOption.{TickOption}
+use mathlib.Core.Path.{_∙_}
 use Rattle.block.specs.Block.{decBlock}
-use Rattle.pass.specs.Waits.{sleepCurrent}
 use Rattle.rows.specs.Holds.{holds}
 use Rattle.threads.proofs.Found.{sleep-none}
 use borrow.Author.Needs.{needs}
 use Rattle.threads.proofs.sleep.sleep_as.Statement.{statement}
 use Rattle.threads.proofs.sleep.sleep_as.Tie as tie
-use Rattle.threads.proofs.sleep.sleep_as.Reads as reads
-use Rattle.threads.proofs.sleep.sleep_as.Lts as lts
-use Rattle.threads.proofs.sleep.sleep_at.Reads as sleep-at-reads
 
 enum-told : tie.Need-enum-told
 enum-told c = search needs

@@ -1,22 +1,12 @@
-use mathlib.Core.Path.{_≡_, refl, ap, sym, _∙_}
-use mathlib.Core.List.{List}
-use borrow.Author.Tests.{eq-eqb, ne-eqb, le-ltb}
-use Rattle.types.specs.declared.thread.Thread.{Thread}
+use mathlib.Core.Path.{ap}
 use Rattle.types.specs.declared.thread.ThreadOption.{ThreadOption}
-use Rattle.types.specs.declared.thread.TickOption.{TickOption}
 use Rattle.block.specs.Block.{decBlock}
 use Rattle.rows.specs.Holds.{holds, put-thread}
-use Rattle.pass.specs.Waits.{sleepAs, sleepCurrent}
 use Rattle.svc.specs.Threads.{runsSince}
 use Rattle.threads.proofs.Found.{sleep-some}
 use borrow.Author.Needs.{needs}
 use Rattle.threads.proofs.sleep.sleep_at.Statement.{statement}
 use Rattle.threads.proofs.sleep.sleep_at.Tie as tie
-use Rattle.threads.proofs.sleep.sleep_at.Reads as reads
-use Rattle.threads.proofs.sleep.sleep_at.Lts as lts
-use Rattle.begin.proofs.saturating_add.Reads as saturating-add-reads
-use Rattle.threads.proofs.sleep.put_running.Reads as put-running-reads
-use Rattle.threads.proofs.sleep.put_sleeping.Reads as put-sleeping-reads
 
 -- src/sleep.rt:75:43
 enum-told : tie.Need-enum-told

@@ -1,29 +1,13 @@
-use mathlib.Core.Path.{_≡_, refl, ap, sym, _∙_}
-use mathlib.Core.List.{List}
-use borrow.Author.Tests.{eq-eqb, ne-eqb, le-ltb}
-use Rattle.types.specs.declared.thread.Thread.{Thread}
-use Rattle.types.specs.declared.thread.ThreadOption.{ThreadOption}
-use Rattle.types.specs.declared.thread.TickOption.{TickOption}
-use Rattle.block.specs.Block.{decBlock}
+use mathlib.Core.Path.{ap, sym, _∙_}
 use mathlib.Core.Bool.{false}
 use native.Mathlib.Omega.{arith}
-use Rattle.svc.specs.Threads.{sleepTicks, sleepFor, sleepThread}
-use Rattle.rows.specs.Holds.{Holds}
+use Rattle.svc.specs.Threads.{sleepThread}
 use Rattle.outcome.specs.Outcome.{outcome-0, outcome-found, left-0, left-found}
 use Rattle.outcome.specs.Findings.{foundOf}
 use Rattle.threads.proofs.Found.{sleep-finding}
 use borrow.Author.Needs.{needs}
 use Rattle.threads.proofs.sleep.sleep_thread.Statement.{statement}
 use Rattle.threads.proofs.sleep.sleep_thread.Tie as tie
-use Rattle.threads.proofs.sleep.sleep_thread.Reads as reads
-use Rattle.threads.proofs.sleep.sleep_thread.Lts as lts
-use Rattle.answering.proofs.pair.Reads as pair-reads
-use Rattle.outcome.proofs.done.Reads as done-reads
-use Rattle.outcome.proofs.out_of_handles.Reads as out-of-handles-reads
-use Rattle.outcome.proofs.refused.Reads as refused-reads
-use Rattle.rows.proofs.read.current.Reads as current-reads
-use Rattle.threads.proofs.sleep.sleep_as.Reads as sleep-as-reads
-use Rattle.threads.proofs.sleep.sleep_ticks.Reads as sleep-ticks-reads
 
 -- src/sleep.rt:99:8
 out-of-handles-requires : tie.Need-out-of-handles-requires

@@ -1,22 +1,13 @@
-use mathlib.Core.Path.{_≡_, refl, ap, sym, _∙_}
+use mathlib.Core.Path.{ap, sym, _∙_}
 use mathlib.Core.List.{List}
-use borrow.Author.Tests.{eq-eqb, ne-eqb, le-ltb}
+use borrow.Author.Tests.{eq-eqb, ne-eqb}
 use Rattle.types.specs.declared.thread.Thread.{Thread}
 use Rattle.types.specs.declared.thread.ThreadOption.{ThreadOption}
-use Rattle.types.specs.declared.thread.TickOption.{TickOption}
 use Rattle.block.specs.Block.{decBlock}
 use Rattle.pass.specs.Pick.{othersReady, othersFrom}
 use borrow.Author.Needs.{needs}
 use Rattle.threads.proofs.sleep.sleep_ticks.Statement.{statement}
 use Rattle.threads.proofs.sleep.sleep_ticks.Tie as tie
-use Rattle.threads.proofs.sleep.sleep_ticks.Reads as reads
-use Rattle.threads.proofs.sleep.sleep_ticks.Lts as lts
-use Rattle.asked.proofs.event.next_event.Reads as next-event-reads
-use Rattle.block.proofs.thread.get_threads.Reads as get-threads-reads
-use Rattle.pick.proofs.others_ready.Reads as others-ready-reads
-use Rattle.rows.proofs.read.current.Reads as current-reads
-use Rattle.signal.proofs.timer.due_by.Reads as due-by-reads
-use Rattle.units.proofs.nanos_to_ticks.Reads as nanos-to-ticks-reads
 
 -- src/sleep.rt:29:37
 nanos-to-ticks-requires : tie.Need-nanos-to-ticks-requires

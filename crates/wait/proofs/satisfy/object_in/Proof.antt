@@ -2,8 +2,6 @@ use mathlib.Core.Path.{sym, _∙_}
 use borrow.Author.Needs.{needs}
 use Rattle.wait.proofs.satisfy.object_in.Statement.{statement}
 use Rattle.wait.proofs.satisfy.object_in.Tie as tie
-use Rattle.wait.proofs.satisfy.object_in.Reads as reads
-use Rattle.wait.proofs.satisfy.object_in.Lts as lts
 
 is-slot-requires : tie.Need-is-slot-requires
 is-slot-requires c κs = search needs

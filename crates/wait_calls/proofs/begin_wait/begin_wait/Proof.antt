@@ -8,7 +8,7 @@ use Rattle.block.specs.Block.{encBlock, decBlock}
 use Rattle.thread.specs.Thread.{withResult}
 use Rattle.pass.specs.Waits.{wakeTick, waiting}
 use Rattle.rows.specs.Holds.{put-thread}
-use Rattle.due.proofs.Looked.{size-threads}
+use Rattle.rows.specs.Sizes.{size-threads}
 use Rattle.wait_calls.proofs.Begins.{current-place, begun-once}
 use borrow.Author.Needs.{needs}
 use Rattle.wait_calls.proofs.begin_wait.begin_wait.Statement.{statement}

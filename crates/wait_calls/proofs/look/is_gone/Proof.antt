@@ -2,7 +2,7 @@ use mathlib.Core.Path.{ap, _∙_}
 use native.Mathlib.Omega.{arith}
 use Rattle.types.specs.declared.thread.Thread.{Thread}
 use Rattle.types.specs.Thread.{isDead}
-use Rattle.due.proofs.Looked.{size-threads}
+use Rattle.rows.specs.Sizes.{size-threads}
 use Rattle.blocking.proofs.Laws.{far}
 use Rattle.block.specs.Block.{decBlock}
 use borrow.Author.Needs.{needs}

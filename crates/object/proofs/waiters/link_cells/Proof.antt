@@ -1,8 +1,8 @@
 use Rattle.laws.specs.Count.{length-put}
-use Rattle.arbiter.proofs.Wakes.{link-keep, link-free}
+use Rattle.object.proofs.Cells.{link-keep, link-free}
 use borrow.Author.Needs.{needs}
-use Rattle.arbiter.proofs.wake.link_cells.Statement.{statement}
-use Rattle.arbiter.proofs.wake.link_cells.Tie as tie
+use Rattle.object.proofs.waiters.link_cells.Statement.{statement}
+use Rattle.object.proofs.waiters.link_cells.Tie as tie
 
 put-cell-requires : tie.Need-put-cell-requires
 put-cell-requires c κs = search needs
