@@ -1,5 +1,4 @@
 // The calls by number (`dispatch` of svc.rs). A call changes the block where it lies.
-use crate::whole;
 use outcome::Outcome;
 use svc::Registers;
 ghost use mathlib.Core.Path.{_≡_};
@@ -7,8 +6,17 @@ ghost use mathlib.Core.Bool.{true};
 ghost use lib.ListN.{length, take};
 ghost use Rattle.block.specs.Block.{decBlock};
 ghost use Rattle.sound.specs.Question.{sound?};
+ghost use Rattle.svc.specs.Call.{silent};
 ghost use Rattle.svc.specs.Dispatch as def;
 ghost use Rattle.outcome.specs.Outcome.{outcome, left};
+
+// A number that is no call's does nothing; question 3 refuses it before.
+fn no_call(block: &[u8]) -> Outcome
+    requires { ⌜ length (now block) ≡ 16384 ⌝ }
+    ensures { λ o. ⌜ o ≡ outcome (silent (decBlock (now (block .entry)))) ⌝ }
+{
+    outcome::refused(outcome::found_of(false, outcome::out_of_handles(block)))
+}
 
 // The call, on the first n words, which it reads.
 pub fn call(
@@ -73,7 +81,7 @@ pub fn call(
         return handle_calls::create_address_arbiter(block);
     }
     if number == 0x22 {
-        return whole::arbitrate_address(block, r, words, n, tick);
+        return arbiter_calls::arbitrate::arbitrate_address(block, r, words, n, tick);
     }
     if number == 0x23 {
         return handle_calls::close::close_handle(block, r);
@@ -87,5 +95,5 @@ pub fn call(
     if number == 0x27 {
         return handle_calls::duplicate::duplicate_handle(block, r);
     }
-    whole::no_call(block)
+    no_call(block)
 }

@@ -1,3 +1,2 @@
 // The calls by number.
 pub mod call;
-pub mod whole;

@@ -2,5 +2,6 @@
 pub mod Rows
 pub mod Over
 pub mod Sizes
+pub mod Current
 pub mod Holds
 pub mod Head

@@ -1,9 +1,8 @@
 -- The record of a thread that begins to wait, written once. Assumes nothing.
-use mathlib.Core.Path.{_≡_, sym, ap, subst, _∙_}
-use mathlib.Core.Bool.{Bool, true, false}
+use mathlib.Core.Path.{_≡_, sym, ap, _∙_}
+use mathlib.Core.Bool.{Bool, false}
 use mathlib.Core.List.{List}
-use Prim.Native.Nat.{ℕ, _≤_, _<_}
-use native.Mathlib.Omega.{arith}
+use Prim.Native.Nat.{ℕ, _<_}
 use lib.ListN.{length, take, set}
 use lib.Seq.{getD-set-same, set-set}
 use Rattle.units.specs.declared.ObjectId.{ObjectId}
@@ -15,8 +14,6 @@ use Rattle.types.specs.declared.object.ObjectStore.{ObjectStore}
 use Rattle.types.specs.declared.kernel.Kernel.{Kernel}
 use Rattle.block.specs.Block.{decBlock}
 use Rattle.sound.specs.View.{ids, threadAt, noThread}
-use Rattle.sound.specs.Threads.{CurrentOk}
-use Rattle.sound.specs.Question.{sound?, t-block}
 use Rattle.object.specs.Store.{addRefs}
 use Rattle.thread.specs.Thread.{withResult}
 use Rattle.thread.specs.Threads.{withThreads}
@@ -28,13 +25,6 @@ use Rattle.lent.specs.Operations.{finding, outOfHandles?}
 use Rattle.blocking.specs.Waits.{waitOnIn}
 use Rattle.timer_calls.proofs.Found.{nothing-found}
 use Rattle.timer_calls.proofs.Changed.{down}
-
--- the current thread of a sound block has a place
-place-of : (t : ThreadOption) (n c : ℕ) → t ≡ SomeThread c → CurrentOk t n → n ≤ 32 → c < 32
-place-of t n c e h m = let w : c < n = subst (λ (z : ThreadOption). CurrentOk z n) e h in omega arith
-
-pub current-place : (b : List ℕ) → sound? b ≡ true → (c : ℕ) → decBlock b .«current_thread» ≡ SomeThread c → c < 32
-current-place b s c e = let t = t-block b .yes s .state .threads in place-of _ (decBlock b .«thread_count») c e (t .current) (t .many)
 
 module _ (k : Kernel) (c : ℕ) (l : List ObjectId) (n : ℕ) (all : Bool) (nanos tick : ℕ) (call : WaitSyscall) (e : k .«current_thread» ≡ SomeThread c) where
   abbrev waits : Thread

@@ -4,12 +4,11 @@ use mathlib.Core.Bool.{Bool, true, false}
 use mathlib.Core.List.{List}
 use mathlib.Core.Logic.{_≢_}
 use Prim.Native.Nat.{ℕ}
-use native.Mathlib.Omega.{arith}
 use lib.Dec.{eqb}
 use borrow.Author.Tests.{eq-eqb, ne-eqb}
 use Rattle.laws.specs.Logic.{pick}
 use Rattle.types.specs.declared.thread.ThreadOption.{ThreadOption}
-use Rattle.types.specs.declared.thread.ThreadOption.the-variants.{NoThread, SomeThread}
+use Rattle.types.specs.declared.thread.ThreadOption.the-variants.{SomeThread}
 use Rattle.types.specs.declared.kernel.Kernel.{Kernel}
 use Rattle.types.specs.Thread.{threadFlag, threadValue}
 use Rattle.block.specs.Block.{encBlock, decBlock}
@@ -28,20 +27,13 @@ use Rattle.lent.specs.Operations.{finding, outOfHandles?}
 use Rattle.outcome.specs.declared.Outcome.{Outcome}
 use Rattle.outcome.specs.Outcome.{accepted, outcome, left}
 use Rattle.rows.specs.Holds.{holds}
+use Rattle.rows.specs.Current.{some-thread, no-thread}
 use Rattle.answering.proofs.Handles.{plain}
 use Rattle.timer_calls.proofs.Found.{leaves}
 use Rattle.timer_calls.specs.Caught.{Caught}
 use Rattle.wait_calls.specs.Named.{wait1Named, wait1-is}
 use Rattle.wait_calls.proofs.Counts.{caught-counts, over-same}
 use Rattle.wait_calls.proofs.Fits.{found-pick, same-found, wait1-found}
-
-pub some-thread : (c : ThreadOption) → threadFlag c ≢ 0 → c ≡ SomeThread (threadValue c)
-some-thread NoThread z = absurd (z refl)
-some-thread (SomeThread t) z = refl
-
-pub no-thread : (c : ThreadOption) → threadFlag c ≡ 0 → c ≡ NoThread
-no-thread NoThread z = refl
-no-thread (SomeThread t) z = absurd (omega arith)
 
 -- a call that leaves the state as it is, or as it is when the timers of b have fired, in e
 pub rests : (b e : List ℕ) → sound? e ≡ true → outOfHandles? (decBlock e) ≡ false → (o : Outcome) (v w : Served) → v .kernel ≡ decBlock e → v ≡ w → o ≡ accepted v → (o ≡ outcome w) × (e ≡ left w b)

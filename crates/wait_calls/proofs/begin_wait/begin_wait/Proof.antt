@@ -9,7 +9,8 @@ use Rattle.thread.specs.Thread.{withResult}
 use Rattle.pass.specs.Waits.{wakeTick, waiting}
 use Rattle.rows.specs.Holds.{put-thread}
 use Rattle.rows.specs.Sizes.{size-threads}
-use Rattle.wait_calls.proofs.Begins.{current-place, begun-once}
+use Rattle.rows.specs.Current.{current-place}
+use Rattle.wait_calls.proofs.Begins.{begun-once}
 use borrow.Author.Needs.{needs}
 use Rattle.wait_calls.proofs.begin_wait.begin_wait.Statement.{statement}
 use Rattle.wait_calls.proofs.begin_wait.begin_wait.Tie as tie

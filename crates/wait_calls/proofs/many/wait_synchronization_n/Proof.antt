@@ -12,7 +12,8 @@ use Rattle.pass.specs.Waits.{satisfiedAt}
 use Rattle.svc.specs.Call.{done, answers}
 use Rattle.blocking.specs.Waits.{takeIn}
 use Rattle.wait_calls.proofs.Fits.{moves-or, settled}
-use Rattle.wait_calls.proofs.Ways.{some-thread, rests}
+use Rattle.rows.specs.Current.{some-thread}
+use Rattle.wait_calls.proofs.Ways.{rests}
 use Rattle.wait_calls.proofs.Lists.{unknown, nobody, waits}
 use borrow.Author.Needs.{needs}
 use Rattle.wait_calls.proofs.many.wait_synchronization_n.Statement.{statement}

@@ -6,7 +6,8 @@ use Rattle.svc.specs.declared.Served.{Served}
 use Rattle.svc.specs.Call.{done, answers}
 use Rattle.svc.specs.Waits.{wait1As}
 use Rattle.outcome.specs.Outcome.{outcome, left}
-use Rattle.wait_calls.proofs.Ways.{some-thread, stays, unknown, nobody, waits}
+use Rattle.rows.specs.Current.{some-thread}
+use Rattle.wait_calls.proofs.Ways.{stays, unknown, nobody, waits}
 use borrow.Author.Needs.{needs}
 use Rattle.wait_calls.proofs.one.wait_named.Statement.{statement}
 use Rattle.wait_calls.proofs.one.wait_named.Tie as tie

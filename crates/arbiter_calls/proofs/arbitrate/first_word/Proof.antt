@@ -2,8 +2,8 @@ use mathlib.Core.Path.{sym}
 use native.Mathlib.Omega.{arith}
 use lib.Seq.{getD-take}
 use borrow.Author.Needs.{needs}
-use Rattle.dispatch.proofs.whole.first_word.Statement.{statement}
-use Rattle.dispatch.proofs.whole.first_word.Tie as tie
+use Rattle.arbiter_calls.proofs.arbitrate.first_word.Statement.{statement}
+use Rattle.arbiter_calls.proofs.arbitrate.first_word.Tie as tie
 
 returns : tie.Need-returns
 returns c = search needs

@@ -1,0 +1,188 @@
+-- A thread that parks in a block: its record, what is found, what the block holds then. Assumes nothing.
+use mathlib.Core.Path.{_≡_, refl, sym, ap, subst, _∙_}
+use mathlib.Core.Bool.{Bool, true, false, not}
+use mathlib.Core.List.{List}
+use Prim.Native.Nat.{ℕ}
+use lib.Dec.{eqb, ltb}
+use lib.ListN.{length, set}
+use Rattle.laws.specs.Logic.{pick, _and_, _or_, false-true}
+use Rattle.codec.specs.Bytes.{le, over}
+use Rattle.codec.specs.Layout.{decAs, encAll, decAll}
+use Rattle.types.specs.declared.thread.Thread.{Thread}
+use Rattle.types.specs.declared.thread.ThreadOption.the-variants.{SomeThread}
+use Rattle.types.specs.declared.thread.TickOption.{TickOption}
+use Rattle.types.specs.declared.object.Slot.{Slot}
+use Rattle.types.specs.declared.object.Waiter.{Waiter}
+use Rattle.types.specs.declared.object.ObjectStore.{ObjectStore}
+use Rattle.types.specs.declared.kernel.Kernel.{Kernel}
+use Rattle.types.specs.Object.{headOf}
+use Rattle.block.specs.declared.Head.{Head}
+use Rattle.block.specs.Table.{encWaiter, decWaiter}
+use Rattle.block.specs.Thread.{four}
+use Rattle.block.specs.Block.{headWords, encBlock, decBlock}
+use Rattle.sound.specs.View.{slotAt, objectAt, threadAt, waiterNexts, waiterThreads, waiterAddresses}
+use Rattle.sound.specs.Records.{chainOf, has?}
+use Rattle.object.specs.Slots.{withObject}
+use Rattle.object.specs.Waiters.{waiterAt, waiterPut, withNext, withHead, isArbiter, lastOf, pushed, push}
+use Rattle.object.proofs.Laws.{first-walk}
+use Rattle.pass.specs.Waits.{wakeTick}
+use Rattle.svc.specs.declared.Served.{Served}
+use Rattle.svc.specs.declared.WordOption.the-variants.{NoWord, SomeWord}
+use Rattle.svc.specs.Call.{done, withObjects, withOver}
+use Rattle.svc.specs.Sync.{biased}
+use Rattle.svc.specs.Arbiter.{parked, parkAs}
+use Rattle.lent.specs.Operations.{finding, outOfHandles?}
+use Rattle.rows.specs.Rows.{threadPut, slotPut, headPut}
+use Rattle.rows.specs.Holds.{Holds, put-thread, put-slot, put-waiters, put-head}
+use Rattle.outcome.specs.Findings.{foundOf, same-finding, over-finding}
+use Rattle.arbiter.specs.Park.{wordAfter, overBelow, waitBelowIn}
+use Rattle.arbiter_calls.specs.declared.park.Room.{Room}
+use Rattle.arbiter_calls.specs.Park.{stores, Place, parkedIn}
+
+-- the records, as they are read
+pub waiters-are : (b : List ℕ) → decAll decWaiter 12 64 b 12416 ≡ decBlock b .objects .waiters
+unfolding decBlock
+waiters-are b = refl
+
+pub free-is : (b : List ℕ) → le 4 b 36 ≡ decBlock b .objects .«free_waiter»
+unfolding decBlock decAs
+free-is b = refl
+
+-- ---- where the record goes
+module _ (s : ObjectStore) (o t a : ℕ) where
+  pub place-other : isArbiter (objectAt s o) ≡ false → Place s o t a (record { stores = false; last = 0 })
+  unfolding _and_
+  place-other e = record { some = rw e; behind = λ z. false-true z }
+
+  module _ (e : isArbiter (objectAt s o) ≡ true) where
+    pub place-has : has? (waiterThreads (s .waiters)) (waiterAddresses (s .waiters)) t a (chainOf s o) ≡ true → Place s o t a (record { stores = false; last = 0 })
+    unfolding _and_
+    place-has f = record { some = rw (e, f); behind = λ z. false-true z }
+
+    pub place-new : has? (waiterThreads (s .waiters)) (waiterAddresses (s .waiters)) t a (chainOf s o) ≡ false → (last : ℕ) → last ≡ lastOf (chainOf s o) → Place s o t a (record { stores = true; last = last })
+    unfolding _and_
+    place-new f last l = record { some = rw (e, f); behind = λ _. l }
+
+-- ---- by whether one is stored
+pub held-as : (b : List ℕ) (k : Kernel) (x y : ObjectStore) → x ≡ y → Holds b (withObjects k x) → Holds b (withObjects k y)
+held-as b k x y e g = subst (λ (z : ObjectStore). Holds b (withObjects k z)) e g
+
+kept-as : (x y : Bool) (s p : ObjectStore) → x and not y ≡ false → s ≡ pick x (pick y s p) s
+unfolding _and_
+kept-as true true s p e = refl
+kept-as true false s p e = false-true (sym e)
+kept-as false y s p e = refl
+
+pushed-as : (x y : Bool) (s p : ObjectStore) → x and not y ≡ true → p ≡ pick x (pick y s p) s
+unfolding _and_
+pushed-as true true s p e = false-true e
+pushed-as true false s p e = refl
+pushed-as false y s p e = false-true e
+
+full-as : (x y f z : Bool) (s p : ObjectStore) → s .full ≡ false → p .full ≡ s .full or z → pick x (pick y s p) s .full ≡ (x and not y) and z
+unfolding _and_ _or_
+full-as true true f z s p e g = e
+full-as true false f z s p e g = g ∙ ap (λ (v : Bool). v or z) e
+full-as false y f z s p e g = e
+
+over-as : (x y : Bool) (s p : ObjectStore) → p .overflow ≡ s .overflow → pick x (pick y s p) s .overflow ≡ s .overflow
+over-as true true s p e = refl
+over-as true false s p e = e
+over-as false y s p e = refl
+
+module _ (s : ObjectStore) (o t a : ℕ) where
+  abbrev arbiter : Bool
+  arbiter = isArbiter (objectAt s o)
+
+  abbrev has : Bool
+  has = has? (waiterThreads (s .waiters)) (waiterAddresses (s .waiters)) t a (chainOf s o)
+
+  module _ (r : Room) (p : Place s o t a r) where
+    pub push-kept : r .stores ≡ false → s ≡ push s o t a
+    unfolding push
+    push-kept e = kept-as arbiter has s (pushed s o t a) (sym (p .some) ∙ e)
+
+    pub push-stored : r .stores ≡ true → pushed s o t a ≡ push s o t a
+    unfolding push
+    push-stored e = pushed-as arbiter has s (pushed s o t a) (sym (p .some) ∙ e)
+
+  push-full : s .full ≡ false → push s o t a .full ≡ stores s o t a and eqb (s .«free_waiter») 0
+  unfolding push
+  push-full e = full-as arbiter has false (eqb (s .«free_waiter») 0) s (pushed s o t a) e refl
+
+  push-overflow : push s o t a .overflow ≡ s .overflow
+  unfolding push
+  push-overflow = over-as arbiter has s (pushed s o t a) refl
+
+-- ---- the record in the block
+module _ (b : List ℕ) (k : Kernel) (g : Holds b k) (o t a : ℕ) where
+  abbrev s : ObjectStore
+  s = k .objects
+
+  abbrev free : ℕ
+  free = s .«free_waiter»
+
+  abbrev hungOn : List Waiter → ℕ → ℕ → List Waiter
+  hungOn ws last r = waiterPut (waiterPut ws last (withNext (waiterAt ws last) r)) r (record { thread = t; address = a; next = 0 })
+
+  abbrev headAfter : Head → ℕ → Head
+  headAfter h n = record { a = h .a; b = h .b; c = four (h .c .0) n (h .c .2) (h .c .3); d = h .d }
+
+  pub stored-in : (h : Head) → h ≡ headWords k → (x : Slot) → x ≡ slotAt (s .slots) o → (ws : List Waiter) → ws ≡ s .waiters → (last : ℕ) → last ≡ lastOf (chainOf s o)
+      → (l : List Waiter) → l ≡ hungOn ws last (h .c .1) → length l ≡ 64 → (first : ℕ) → first ≡ pick (eqb (headOf (x .object)) 0) (h .c .1) (headOf (x .object))
+      → Holds (headPut (slotPut (over b 12416 (encAll encWaiter l)) o (withObject x (withHead (x .object) first))) (headAfter h (waiterAt ws (h .c .1) .next))) (withObjects k (pushed s o t a))
+  stored-in h e x ex ws ew last el l eh n first ef =
+      let q : l ≡ pushed s o t a .waiters = eh ∙ (λ i. hungOn (ew i) (el i) (e i .c .1)) in
+      let f : first ≡ pick (eqb (headOf (objectAt s o)) 0) free (headOf (objectAt s o)) = ef ∙ (λ i. pick (eqb (headOf (ex i .object)) 0) (e i .c .1) (headOf (ex i .object))) in
+      let m : length (pushed s o t a .waiters) ≡ 64 = ap length (sym q) ∙ n in
+      rw (q, e, ex, ew, f ∙ sym (first-walk (waiterNexts (s .waiters)) 63 (headOf (objectAt s o)) free))
+      (put-head (put-slot (put-waiters g (pushed s o t a .waiters) m) o _) (withObjects k (pushed s o t a)) refl refl refl refl refl)
+
+-- ---- what is found
+or-none : (v : Bool) → v or (false or false) ≡ v
+unfolding _or_
+or-none true = refl
+or-none false = refl
+
+module _ (b : List ℕ) (n : outOfHandles? (decBlock b) ≡ false) where
+  abbrev j : Kernel
+  j = decBlock b
+
+  none-full : j .objects .full ≡ false
+  unfolding decBlock
+  none-full = refl
+
+  none-over : j .objects .overflow ≡ false
+  unfolding decBlock
+  none-over = refl
+
+  pub nothing : finding j ≡ 0
+  nothing = same-finding b ∙ ap (foundOf false) n
+
+  pub parked-finding : (c o a : ℕ) (wake : TickOption) (over : Bool) → finding (parkedIn j c o a wake over) ≡ foundOf (stores (j .objects) o c a and eqb (j .objects .«free_waiter») 0) over
+  parked-finding c o a wake over =
+      over-finding b (set (j .threads) c (parked (threadAt (j .threads) c) a wake)) (push (j .objects) o c a) over
+      ∙ (λ i. foundOf (push-full (j .objects) o c a none-full i) (over or ((push-overflow (j .objects) o c a ∙ none-over) i or n i)))
+      ∙ ap (foundOf (stores (j .objects) o c a and eqb (j .objects .«free_waiter») 0)) (or-none over)
+
+-- ---- the thread's record after that
+pub parked-in : (b e : List ℕ) (c o a : ℕ) (wake : TickOption) (over : Bool) → Holds e (withObjects (decBlock b) (push (decBlock b .objects) o c a)) → (x : Thread) → x ≡ threadAt (decBlock b .threads) c
+    → threadPut e c (parked x a wake) ≡ encBlock (parkedIn (decBlock b) c o a wake over)
+unfolding encBlock
+parked-in b e c o a wake over g x ex = rw ex (put-thread g c (parked (threadAt (decBlock b .threads) c) a wake) .same)
+
+-- ---- the call
+module _ (d : Bool) (time : TickOption) (k : Kernel) (o a value word tick : ℕ) where
+  pub not-below : ltb (biased word) (biased value) ≡ false → done k ≡ waitBelowIn d time k o a value word tick
+  not-below e = rw e
+
+  pub below : ltb (biased word) (biased value) ≡ true → k .overflow ≡ false → (c : ℕ) → k .«current_thread» ≡ SomeThread c
+      → _≡_ {A = Served} (record { kernel = parkedIn k c o a (wakeTick time tick) (overBelow false d word); answer = 0; r0 = SomeWord 0; r1 = NoWord; word = wordAfter d word }) (waitBelowIn d time k o a value word tick)
+  below e v c f =
+      rw e (λ i. record {
+        kernel = withOver (parkAs (sym f i) k o a time tick) (overBelow (sym v i) d word);
+        answer = 0;
+        r0 = SomeWord 0;
+        r1 = NoWord;
+        word = wordAfter d word;
+      })

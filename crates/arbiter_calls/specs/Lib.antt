@@ -1,0 +1,2 @@
+-- What ArbitrateAddress does in the block.
+pub mod Park

@@ -1,0 +1,4 @@
+// ArbitrateAddress in the block where it lies.
+pub mod arbitrate;
+pub mod park;
+pub mod wake;
