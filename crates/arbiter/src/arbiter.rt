@@ -31,7 +31,7 @@ pub fn arbitrate_address(k: Kernel, r: Registers, word: u32, tick: u64) -> Serve
     let t = k.handles;
     let mut s = k.objects;
     let mut o = handles::object_of(t, Handle(r.r0));
-    if answering::is_pseudo(r.r0) {
+    if svc::read::is_pseudo(r.r0) {
         let x = kept::resolve(current, t, s, Handle(r.r0));
         o = x.object;
         s = x.store;
@@ -67,6 +67,6 @@ pub fn arbitrate_address(k: Kernel, r: Registers, word: u32, tick: u64) -> Serve
             word: WordOption::NoWord,
         };
     }
-    let time = park::park_time(3 <= kind, answering::pair(r.r4, r.r5));
+    let time = park::park_time(3 <= kind, svc::read::pair(r.r4, r.r5));
     park::wait_below(kind % 2 == 0, time, q, o, r.r1, r.r3, word, tick)
 }

@@ -11,7 +11,6 @@ use types::thread::TickOption;
 use types::thread::WaitSyscall;
 use units::Nanos;
 use units::ObjectId;
-use units::Ticks;
 ghost use mathlib.Core.Path.{_≡_};
 ghost use Prim.Native.Nat.{_+_, _-_, _<_};
 ghost use lib.Dec.{ltb};
@@ -35,7 +34,7 @@ pub fn park_time(timed: bool, nanos: u64) -> TickOption
     if !timed {
         return TickOption::NoTick;
     }
-    if answering::negative(nanos) {
+    if svc::read::negative(nanos) {
         return TickOption::NoTick;
     }
     TickOption::SomeTick(units::nanos_to_ticks(Nanos(nanos)))

@@ -15,7 +15,7 @@ use Rattle.svc.specs.declared.Registers.{Registers}
 use Rattle.svc.specs.declared.Served.{Served}
 use Rattle.svc.specs.Call.{done, answers, pair, resolved}
 use Rattle.svc.specs.Arbiter.{signalAddress, arbitrateAddress}
-use Rattle.answering.proofs.Handles.{plain}
+use Rattle.svc.proofs.Handles.{plain}
 use Rattle.lent.specs.Operations.{finding, outOfHandles?}
 use Rattle.rows.specs.Holds.{Holds}
 use Rattle.outcome.specs.declared.Outcome.{Outcome}

@@ -48,7 +48,7 @@ pub fn arbitrate_address(
 {
     let word = first_word(words, n);
     let kind = r.r2;
-    if answering::is_pseudo(r.r0) {
+    if svc::read::is_pseudo(r.r0) {
         return by_value(block, r, word, tick);
     }
     if outcome::out_of_handles(block) {
@@ -70,7 +70,7 @@ pub fn arbitrate_address(
         return by_value(block, r, word, tick);
     }
     let c = types::thread::thread_value(current);
-    let time = arbiter::park::park_time(3 <= kind, answering::pair(r.r4, r.r5));
+    let time = arbiter::park::park_time(3 <= kind, svc::read::pair(r.r4, r.r5));
     park::wait_below(
         block,
         c,

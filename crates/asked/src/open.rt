@@ -11,7 +11,7 @@ pub fn open_object(b: &[u8], h: u32) -> ObjectId
     requires { ⌜ length (now b) ≡ 16384 ⌝ }
     ensures { λ r. ⌜ r .0 ≡ openObject (decBlock (now (b .entry))) h ⌝ }
 {
-    if answering::is_pseudo(h) {
+    if svc::read::is_pseudo(h) {
         return ObjectId(0);
     }
     read::object_of(b, h)

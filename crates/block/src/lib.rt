@@ -10,7 +10,6 @@ use codec::Four;
 use types::kernel::Kernel;
 use types::object::HandleTable;
 use types::object::ObjectStore;
-use types::thread::ThreadOption;
 use units::Handle;
 use units::ObjectId;
 ghost use mathlib.Core.Path.{_≡_};

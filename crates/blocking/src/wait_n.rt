@@ -63,7 +63,7 @@ fn open_all(
         }
         let h = words[i];
         let mut o = handles::object_of(t, Handle(h));
-        if answering::is_pseudo(h) {
+        if svc::read::is_pseudo(h) {
             let x = kept::resolve(current, t, q, Handle(h));
             o = x.object;
             q = x.store;
@@ -212,6 +212,6 @@ pub fn wait_synchronization_n(k: Kernel, r: Registers, words: [u32; 8], n: u32, 
     }
     let c = types::thread::thread_value(current);
     let m = places::least_of(n, 8);
-    let nanos = answering::pair(r.r0, r.r4);
+    let nanos = svc::read::pair(r.r0, r.r4);
     wait_list(q, c, l, m, r.r3 != 0, nanos, tick)
 }

@@ -32,7 +32,7 @@ ghost use Rattle.blocking.specs.Waits.{waitOnIn};
 pub fn wait_time(nanos: u64) -> TickOption
     ensures { λ r. ⌜ r ≡ def.waitTime nanos ⌝ }
 {
-    if answering::negative(nanos) {
+    if svc::read::negative(nanos) {
         return TickOption::NoTick;
     }
     TickOption::SomeTick(units::nanos_to_ticks(Nanos(nanos)))
@@ -160,7 +160,7 @@ pub fn wait_synchronization1(k: Kernel, r: Registers, tick: u64) -> Served
         s = catch_up::catch_up_timers(s, ts, tick);
     }
     let mut o = handles::object_of(t, Handle(r.r0));
-    if answering::is_pseudo(r.r0) {
+    if svc::read::is_pseudo(r.r0) {
         let x = kept::resolve(current, t, s, Handle(r.r0));
         o = x.object;
         s = x.store;
@@ -189,7 +189,7 @@ pub fn wait_synchronization1(k: Kernel, r: Registers, tick: u64) -> Served
         q,
         types::thread::thread_value(current),
         o,
-        answering::pair(r.r2, r.r3),
+        svc::read::pair(r.r2, r.r3),
         tick,
     )
 }

@@ -1,3 +1,4 @@
 -- The laws that the proofs of `handle_calls` cite.
 pub mod Written
 pub mod Found
+pub mod Crowded

@@ -12,6 +12,7 @@ use units::ObjectId;
 ghost use mathlib.Core.Path.{_≡_};
 ghost use mathlib.Core.Bool.{true};
 ghost use Prim.Native.Nat.{_<_, _+_};
+ghost use lib.Dec.{leb};
 ghost use lib.ListN.{length};
 ghost use Rattle.block.specs.Block.{decBlock};
 ghost use Rattle.sound.specs.Question.{sound?};
@@ -21,6 +22,7 @@ ghost use Rattle.svc.specs.Call.{withHandles};
 ghost use Rattle.svc.specs.Handles as def;
 ghost use Rattle.rows.specs.Holds.{Holds};
 ghost use Rattle.outcome.specs.Outcome.{outcome, left};
+ghost use Rattle.outcome.specs.Findings.{foundOf};
 
 // The handle goes behind the last one, which has room, and the object has one holder more.
 fn put_duplicate(block: &mut [u8], o: ObjectId)
@@ -56,14 +58,25 @@ fn put_duplicate(block: &mut [u8], o: ObjectId)
     );
 }
 
-// With no room for another handle the call is refused or the handle is unknown: the whole state tells which.
-fn without_room(block: &mut [u8], r: Registers) -> Outcome
+// With no room for another handle, which found says, the call is refused or its handle is unknown. The block stays as it is.
+fn without_room(block: &[u8], r: Registers, found: u32) -> Outcome
     requires { ⌜ length (now block) ≡ 16384 ⌝ }
+    requires { ⌜ sound? (now block) ≡ true ⌝ }
+    requires { ⌜ found ≡ foundOf (leb 256 (decBlock (now block) .handles .count)) (leb 0xFFFF8000 (decBlock (now block) .handles .next .0)) ⌝ }
+    requires { ⌜ (found ≡ 0 → ⊥) ⌝ }
     ensures { λ o. ⌜ o ≡ outcome (def.duplicateHandle (decBlock (now (block .entry))) r) ⌝ }
-    ensures { λ _. ⌜ now (block .exit) ≡ left (def.duplicateHandle (decBlock (now (block .entry))) r) (now (block .entry)) ⌝ }
+    ensures { λ _. ⌜ now (block .entry) ≡ left (def.duplicateHandle (decBlock (now (block .entry))) r) (now (block .entry)) ⌝ }
 {
-    let k = block::decode(block);
-    outcome::finish(block, calls::handles::duplicate_handle(k, r))
+    if open::no_room(block, r.r1) {
+        return outcome::refused(7);
+    }
+    if open::names(block, r.r1) {
+        return outcome::refused(found);
+    }
+    if outcome::out_of_handles(block) {
+        return outcome::refused(8);
+    }
+    outcome::answers(16)
 }
 
 // r1 handle; r1 gets another.
@@ -73,13 +86,10 @@ pub fn duplicate_handle(block: &mut [u8], r: Registers) -> Outcome
     ensures { λ o. ⌜ o ≡ outcome (def.duplicateHandle (decBlock (now (block .entry))) r) ⌝ }
     ensures { λ _. ⌜ now (block .exit) ≡ left (def.duplicateHandle (decBlock (now (block .entry))) r) (now (block .entry)) ⌝ }
 {
-    let count = codec::get32(block, 40);
     let next = codec::get32(block, 44);
-    if 256 <= count {
-        return without_room(block, r);
-    }
-    if 0xFFFF8000 <= next {
-        return without_room(block, r);
+    let room = outcome::found_of(256 <= codec::get32(block, 40), 0xFFFF8000 <= next);
+    if room != 0 {
+        return without_room(block, r, room);
     }
     let a = open::open(block, r.r1);
     if a.found != 0 {

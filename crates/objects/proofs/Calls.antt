@@ -1,9 +1,9 @@
--- A call that opens a handle and goes on from there. v is what it leaves; it finds what opening the handle found. Assumes nothing.
+-- A call that opens a handle in the state k and goes on from there. v is what it leaves; it finds what opening the handle found. Assumes nothing.
 use mathlib.Core.Path.{_≡_, sym, ap, subst, _∙_}
 use mathlib.Core.List.{List}
 use mathlib.Core.Logic.{_≢_}
 use Prim.Native.Nat.{ℕ}
-use Rattle.block.specs.Block.{decBlock}
+use Rattle.types.specs.declared.kernel.Kernel.{Kernel}
 use Rattle.svc.specs.declared.Served.{Served}
 use Rattle.svc.specs.Call.{withObjects, resolved}
 use Rattle.lent.specs.Operations.{finding}
@@ -13,8 +13,8 @@ use Rattle.outcome.specs.Outcome.{outcome, left, accepted, refused, outcome-0, 
 use Rattle.objects.specs.declared.open.Opened.{Opened}
 use Rattle.objects.specs.Open.{Opens}
 
-module _ (b : List ℕ) (h : ℕ) (e : List ℕ) (o : Opened) (p : Opens (decBlock b) (resolved (decBlock b) h) b e o) (v : Served)
-    (f : finding (v .kernel) ≡ finding (withObjects (decBlock b) (resolved (decBlock b) h .store))) where
+module _ (b : List ℕ) {k : Kernel} (h : ℕ) (e : List ℕ) (o : Opened) (p : Opens k (resolved k h) b e o) (v : Served)
+    (f : finding (v .kernel) ≡ finding (withObjects k (resolved k h .store))) where
   pub refused-call : o .found ≢ 0 → (a : Outcome) → a ≡ refused (o .found) → (a ≡ outcome v) × (e ≡ left v b)
   refused-call z a q =
       let g = f ∙ sym (p .found) in

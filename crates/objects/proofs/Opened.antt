@@ -54,12 +54,12 @@ module _ (b : List ℕ) (s : sound? b ≡ true) where
   process-kept z = rw (ne-eqb (k .objects .«process_object» .0) 0 z)
 
   -- ---- an object is made
-  made-thread : (t : ℕ) → keptAt (k .objects) t ≡ 0
+  pub made-thread : (t : ℕ) → keptAt (k .objects) t ≡ 0
       → threadObject (k .objects) t ≡ withKept (insert (k .objects) (Thread t)) (set (k .objects .«thread_objects») t (record { 0 = k .objects .free }))
   unfolding threadObject
   made-thread t e = rw (eq-eqb (keptAt (k .objects) t) 0 e)
 
-  made-process : k .objects .«process_object» .0 ≡ 0 → processObject (k .objects) ≡ withProcess (insert (k .objects) Process) (record { 0 = k .objects .free })
+  pub made-process : k .objects .«process_object» .0 ≡ 0 → processObject (k .objects) ≡ withProcess (insert (k .objects) Process) (record { 0 = k .objects .free })
   unfolding processObject
   made-process e = rw (eq-eqb (k .objects .«process_object» .0) 0 e)
 
@@ -86,7 +86,7 @@ module _ (b : List ℕ) (s : sound? b ≡ true) where
     object = λ z. q ∙ ap (λ (y : ObjectStore). y .«process_object» .0) (sym (made-process p));
   }
 
-  kept-put : (l : List ObjectId) (t o : ℕ) → length l ≡ 32 → getD (ids (set l t (record { 0 = o }))) t 0 ≡ pick (ltb t 32) o 0
+  pub kept-put : (l : List ObjectId) (t o : ℕ) → length l ≡ 32 → getD (ids (set l t (record { 0 = o }))) t 0 ≡ pick (ltb t 32) o 0
   kept-put l t o n = elim (lt-cases t 32) [
     | inl h ↦ rw (lt-ltb t 32 h) (List·getD-map (λ (x : ObjectId). x .0) (set l t (record { 0 = o })) t (record { 0 = 0 }) ∙ ap (λ (x : ObjectId). x .0) (getD-set-same l t (record { 0 = o }) (record { 0 = 0 }) (omega (arith, n))))
     | inr h ↦

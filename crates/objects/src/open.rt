@@ -20,7 +20,7 @@ ghost use Rattle.object.specs.Kept.{ofCurrent};
 ghost use Rattle.svc.specs.Call.{withObjects, resolved};
 ghost use Rattle.lent.specs.Operations.{finding};
 ghost use Rattle.rows.specs.Holds.{Holds};
-ghost use Rattle.objects.specs.Open.{Opens, ofProcess, foundMaking};
+ghost use Rattle.objects.specs.Open.{Opens, ofProcess, makesCurrent, noRoom, Names, foundMaking};
 
 // The object, 0 if there is none, and what questions 7 and 8 found, 0 for nothing.
 pub struct Opened {
@@ -169,4 +169,52 @@ pub fn open(block: &mut [u8], h: u32) -> Opened
     }
     let o = read::object_of(block, h);
     there(block, o)
+}
+
+fn makes_current(block: &[u8], current: ThreadOption) -> bool
+    requires { ⌜ length (now block) ≡ 16384 ⌝ }
+    ensures { λ r. ⌜ r ≡ makesCurrent (decBlock (now (block .entry)) .objects) current ⌝ }
+{
+    match current {
+        ThreadOption::NoThread => false,
+        ThreadOption::SomeThread(t) => {
+            let o = read::kept_at(block, t);
+            o.0 == 0
+        }
+    }
+}
+
+// The object of the handle would have to be made, and no slot is free. For a call that writes before it opens the handle.
+pub fn no_room(block: &[u8], h: u32) -> bool
+    requires { ⌜ length (now block) ≡ 16384 ⌝ }
+    ensures { λ r. ⌜ r ≡ noRoom (decBlock (now (block .entry))) h ⌝ }
+{
+    if codec::get32(block, 32) != 0 {
+        return false;
+    }
+    if h == 0xFFFF8000 {
+        let current = read::current(block);
+        return makes_current(block, current);
+    }
+    if h == 0xFFFF8001 {
+        return codec::get32(block, 48) == 0;
+    }
+    false
+}
+
+// Whether the handle names an object once it is open.
+pub fn names(block: &[u8], h: u32) -> bool
+    requires { ⌜ length (now block) ≡ 16384 ⌝ }
+    requires { ⌜ sound? (now block) ≡ true ⌝ }
+    ensures { λ r. ⌜ Names (decBlock (now (block .entry))) h r ⌝ }
+{
+    if h == 0xFFFF8000 {
+        let current = read::current(block);
+        return types::thread::thread_flag(current) != 0;
+    }
+    if h == 0xFFFF8001 {
+        return true;
+    }
+    let o = read::object_of(block, h);
+    o.0 != 0
 }

@@ -1,4 +1,6 @@
 // What guest calls are given and what they leave (svc.rs); the definitions are in specs/.
+pub mod read;
+
 use types::kernel::Kernel;
 
 // The first six registers, as a call reads them.

@@ -7,14 +7,13 @@ use lib.Dec.{eqb}
 use Rattle.laws.specs.Logic.{_or_, or-false}
 use Rattle.types.specs.declared.object.KObject.{KObject}
 use Rattle.types.specs.declared.object.KObject.the-variants.{Free, Thread, Event, Mutex, Semaphore, Timer, AddressArbiter, Process, ResourceLimit}
-use Rattle.types.specs.declared.object.Slot.{Slot}
 use Rattle.types.specs.declared.object.ObjectStore.{ObjectStore}
 use Rattle.types.specs.declared.sync.Semaphore as se
 use Rattle.types.specs.declared.kernel.Kernel.{Kernel}
 use Rattle.block.specs.Block.{decBlock, encBlock}
 use Rattle.sound.specs.Question.{sound?}
-use Rattle.sound.specs.View.{slotAt, objectAt}
-use Rattle.object.specs.Slots.{content, withObject, withSlots}
+use Rattle.sound.specs.View.{objectAt}
+use Rattle.object.specs.Slots.{content}
 use Rattle.object.specs.Slots as object
 use Rattle.pass.specs.Signal as pass
 use Rattle.svc.specs.declared.Registers.{Registers}
@@ -27,22 +26,7 @@ use Rattle.outcome.specs.Findings.{foundOf, none-found, parts-finding, over-fin
 use Rattle.objects.specs.declared.open.Opened.{Opened}
 use Rattle.objects.specs.Open.{Opens}
 use Rattle.objects.proofs.Calls.{refused-call}
-use Rattle.rows.specs.Rows.{slotPut}
-use Rattle.rows.specs.Holds.{Holds, put-slot}
-
--- other slots, and nothing more is found
-pub slots-finding : (k : Kernel) (l : List Slot) → finding (withObjects k (withSlots (k .objects) l)) ≡ finding k
-unfolding finding outOfHandles?
-slots-finding k l = refl
-
-pub content-finding : (k : Kernel) (o : ℕ) (v : KObject) → finding (withObjects k (content (k .objects) o v)) ≡ finding k
-unfolding content finding outOfHandles?
-content-finding k o v = refl
-
--- an object changes what it holds, in the block
-pub put-content : {b : List ℕ} {k : Kernel} → Holds b k → (o : ℕ) (x : Slot) (v : KObject) → x ≡ slotAt (k .objects .slots) o → Holds (slotPut b o (withObject x v)) (withObjects k (content (k .objects) o v))
-unfolding content
-put-content g o x v e = rw e (put-slot g o _)
+use Rattle.objects.proofs.Changed.{slots-finding, content-finding}
 
 pub mutex-finding : (x : KObject) (k : Kernel) (o : ℕ) → finding (releaseMutexAs x k o .kernel) ≡ finding k
 mutex-finding (Free n) k o = refl

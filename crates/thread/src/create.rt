@@ -1,5 +1,4 @@
 // Making a thread: in the place of an ended one, or in a new one (`forget_thread`, `create_thread`).
-use crate::thread;
 use object::kept;
 use object::store;
 use object::waiters;

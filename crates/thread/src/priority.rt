@@ -1,5 +1,4 @@
 // The priority of a thread changes. A number past the places names no thread.
-use crate::places;
 use types::thread::Thread;
 ghost use mathlib.Core.Path.{_≡_};
 ghost use Prim.Native.Nat.{_-_};

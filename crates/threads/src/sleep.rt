@@ -99,7 +99,7 @@ pub fn sleep_thread(block: &mut [u8], r: Registers, tick: u64) -> Outcome
     if outcome::out_of_handles(block) {
         return outcome::refused(8);
     }
-    let time = sleep_ticks(block, answering::pair(r.r0, r.r1), tick);
+    let time = sleep_ticks(block, svc::read::pair(r.r0, r.r1), tick);
     let current = read::current(block);
     sleep_as(block, current, time, tick);
     outcome::done()

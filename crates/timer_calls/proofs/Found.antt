@@ -33,6 +33,11 @@ module _ (b : List ℕ) (tick : ℕ) where
   unfolding outOfHandles?
   all-caught e n s h q = record { size = n; sound = s; same = λ z. false-true (sym z); state = λ z. q; handles = λ z. ap outOfHandles? q ∙ h }
 
+-- what a block decodes to has no finding of the store's
+pub down : (b : List ℕ) → (decBlock b .objects .full ≡ false) × (decBlock b .objects .overflow ≡ false)
+unfolding decBlock
+down b = (refl, refl)
+
 -- the state of the block e with other threads and another store, in which nothing is found
 pub nothing-found : (e : List ℕ) → outOfHandles? (decBlock e) ≡ false → (ts : List Thread) (s : ObjectStore) → s .full ≡ false → s .overflow ≡ false → finding (withThreads (decBlock e) ts s) ≡ 0
 unfolding _or_

@@ -1,3 +1,4 @@
 -- The laws that the proofs of `timer_calls` cite.
 pub mod Found
-pub mod Changed
+pub mod Opened
+pub mod Named

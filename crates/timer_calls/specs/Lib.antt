@@ -1,3 +1,4 @@
 -- What the calls on timers do in the block.
 pub mod Caught
+pub mod Kinds
 pub mod Named

@@ -1,6 +1,6 @@
-// `create_timer`, `set_timer`, `cancel_timer` and `clear_timer` (svc.rs). Each of the three that name a timer first fires
-// what came due; where something is found before that, it goes by value, which is rare.
+// `create_timer`, `set_timer`, `cancel_timer` and `clear_timer` (svc.rs). Each of the three that name a timer first fires what came due.
 use crate::caught;
+use crate::set;
 use objects::change;
 use objects::create;
 use outcome::Outcome;
@@ -10,16 +10,18 @@ use svc::Registers;
 use types::object::KObject;
 use types::sync::Timer;
 use types::thread::TickOption;
+use units::ObjectId;
 use units::Ticks;
 ghost use mathlib.Core.Path.{_≡_};
-ghost use mathlib.Core.Bool.{true, false};
+ghost use mathlib.Core.Bool.{true};
 ghost use lib.ListN.{length};
-ghost use Rattle.block.specs.Block.{encBlock, decBlock};
+ghost use Rattle.block.specs.Block.{decBlock};
 ghost use Rattle.sound.specs.Question.{sound?};
-ghost use Rattle.pass.specs.Asks.{pseudo};
+ghost use Rattle.pass.specs.Timers.{lostObject};
 ghost use Rattle.svc.specs.Timers as def;
+ghost use Rattle.rows.specs.Holds.{Holds};
 ghost use Rattle.outcome.specs.Outcome.{outcome, left, accepted};
-ghost use Rattle.timer_calls.specs.Named.{setNamed, cancelNamed, clearNamed};
+ghost use Rattle.timer_calls.specs.Named.{setOpened, changed};
 
 // It is stopped.
 pub fn create_timer(block: &mut [u8], r: Registers) -> Outcome
@@ -40,20 +42,18 @@ pub fn create_timer(block: &mut [u8], r: Registers) -> Outcome
     )
 }
 
-fn set_named(block: &mut [u8], r: Registers, tick: u64) -> Outcome
+fn set_opened(block: &mut [u8], o: ObjectId, r: Registers, tick: u64) -> Outcome
     requires { ⌜ length (now block) ≡ 16384 ⌝ }
     requires { ⌜ sound? (now block) ≡ true ⌝ }
-    requires { ⌜ pseudo (r .r0) ≡ false ⌝ }
-    ensures { λ o. ⌜ o ≡ accepted (setNamed (decBlock (now (block .entry))) r tick) ⌝ }
-    ensures { λ _. ⌜ now (block .exit) ≡ encBlock (setNamed (decBlock (now (block .entry))) r tick .kernel) ⌝ }
+    ensures { λ v. ⌜ v ≡ accepted (setOpened (decBlock (now (block .entry))) (o .0) r tick) ⌝ }
+    ensures { λ _. ⌜ Holds (now (block .exit)) (setOpened (decBlock (now (block .entry))) (o .0) r tick .kernel) ⌝ }
 {
-    let o = read::object_of(block, r.r0);
     let x = read::slot_at(block, o.0);
     let old = x.object;
     if types::object::kind_number(old) != 5 {
         return outcome::answers(16);
     }
-    let t = calls::timers::set_by(old, r, tick);
+    let t = set::set_by(old, r, tick);
     change::content(block, o, x, KObject::Timer(t));
     outcome::done()
 }
@@ -65,23 +65,22 @@ pub fn set_timer(block: &mut [u8], r: Registers, tick: u64) -> Outcome
     ensures { λ o. ⌜ o ≡ outcome (def.setTimer (decBlock (now (block .entry))) r tick) ⌝ }
     ensures { λ _. ⌜ now (block .exit) ≡ left (def.setTimer (decBlock (now (block .entry))) r tick) (now (block .entry)) ⌝ }
 {
-    if !caught::ready(block, r.r0, tick) {
-        let k = block::decode(block);
-        return outcome::finish(block, calls::timers::set_timer(k, r, tick));
+    let a = caught::open_caught(block, r.r0, tick);
+    if a.found != 0 {
+        return outcome::refused(a.found);
     }
-    set_named(block, r, tick)
+    let o = a.object;
+    set_opened(block, o, r, tick)
 }
 
-fn cancel_named(block: &mut [u8], h: u32)
+fn put_cancelled(block: &mut [u8], o: ObjectId)
     requires { ⌜ length (now block) ≡ 16384 ⌝ }
     requires { ⌜ sound? (now block) ≡ true ⌝ }
-    requires { ⌜ pseudo h ≡ false ⌝ }
-    ensures { λ _. ⌜ now (block .exit) ≡ encBlock (cancelNamed (decBlock (now (block .entry))) h .kernel) ⌝ }
+    ensures { λ _. ⌜ Holds (now (block .exit)) (changed def.cancelled (decBlock (now (block .entry))) (o .0)) ⌝ }
 {
-    let o = read::object_of(block, h);
     let x = read::slot_at(block, o.0);
     let old = x.object;
-    let after = calls::timers::cancelled(old);
+    let after = set::cancelled(old);
     change::content(block, o, x, after);
 }
 
@@ -92,21 +91,20 @@ pub fn cancel_timer(block: &mut [u8], r: Registers, tick: u64) -> Outcome
     ensures { λ o. ⌜ o ≡ outcome (def.cancelTimer (decBlock (now (block .entry))) r tick) ⌝ }
     ensures { λ _. ⌜ now (block .exit) ≡ left (def.cancelTimer (decBlock (now (block .entry))) r tick) (now (block .entry)) ⌝ }
 {
-    if !caught::ready(block, r.r0, tick) {
-        let k = block::decode(block);
-        return outcome::finish(block, calls::timers::cancel_timer(k, r, tick));
+    let a = caught::open_caught(block, r.r0, tick);
+    if a.found != 0 {
+        return outcome::refused(a.found);
     }
-    cancel_named(block, r.r0);
+    let o = a.object;
+    put_cancelled(block, o);
     outcome::done()
 }
 
-fn clear_named(block: &mut [u8], h: u32)
+fn put_cleared(block: &mut [u8], o: ObjectId)
     requires { ⌜ length (now block) ≡ 16384 ⌝ }
     requires { ⌜ sound? (now block) ≡ true ⌝ }
-    requires { ⌜ pseudo h ≡ false ⌝ }
-    ensures { λ _. ⌜ now (block .exit) ≡ encBlock (clearNamed (decBlock (now (block .entry))) h .kernel) ⌝ }
+    ensures { λ _. ⌜ Holds (now (block .exit)) (changed lostObject (decBlock (now (block .entry))) (o .0)) ⌝ }
 {
-    let o = read::object_of(block, h);
     let x = read::slot_at(block, o.0);
     let old = x.object;
     let after = catch_up::lost_object(old);
@@ -120,10 +118,11 @@ pub fn clear_timer(block: &mut [u8], r: Registers, tick: u64) -> Outcome
     ensures { λ o. ⌜ o ≡ outcome (def.clearTimer (decBlock (now (block .entry))) r tick) ⌝ }
     ensures { λ _. ⌜ now (block .exit) ≡ left (def.clearTimer (decBlock (now (block .entry))) r tick) (now (block .entry)) ⌝ }
 {
-    if !caught::ready(block, r.r0, tick) {
-        let k = block::decode(block);
-        return outcome::finish(block, calls::timers::clear_timer(k, r, tick));
+    let a = caught::open_caught(block, r.r0, tick);
+    if a.found != 0 {
+        return outcome::refused(a.found);
     }
-    clear_named(block, r.r0);
+    let o = a.object;
+    put_cleared(block, o);
     outcome::done()
 }

@@ -23,8 +23,7 @@ use Rattle.passing.specs.Begins.{addRefs-overflow}
 use Rattle.svc.specs.Waits.{waitTime}
 use Rattle.lent.specs.Operations.{finding, outOfHandles?}
 use Rattle.blocking.specs.Waits.{waitOnIn}
-use Rattle.timer_calls.proofs.Found.{nothing-found}
-use Rattle.timer_calls.proofs.Changed.{down}
+use Rattle.timer_calls.proofs.Found.{down, nothing-found}
 
 module _ (k : Kernel) (c : ℕ) (l : List ObjectId) (n : ℕ) (all : Bool) (nanos tick : ℕ) (call : WaitSyscall) (e : k .«current_thread» ≡ SomeThread c) where
   abbrev waits : Thread
@@ -53,4 +52,4 @@ pub begun-finding : (b : List ℕ) → outOfHandles? (decBlock b) ≡ false → 
     → finding (waitOnIn (decBlock b) c l n all nanos tick call .kernel) ≡ 0
 begun-finding b h c l n all nanos tick call e =
     ap finding (begun (decBlock b) c l n all nanos tick call e)
-    ∙ nothing-found b h _ (addRefs (decBlock b .objects) (take n (ids l))) (addRefs-full (take n (ids l)) (decBlock b .objects) ∙ down b h .0) (addRefs-overflow (take n (ids l)) (decBlock b .objects) ∙ down b h .1)
+    ∙ nothing-found b h _ (addRefs (decBlock b .objects) (take n (ids l))) (addRefs-full (take n (ids l)) (decBlock b .objects) ∙ down b .0) (addRefs-overflow (take n (ids l)) (decBlock b .objects) ∙ down b .1)

@@ -28,8 +28,7 @@ use Rattle.outcome.specs.declared.Outcome.{Outcome}
 use Rattle.outcome.specs.Outcome.{outcome, left, left-0}
 use Rattle.blocking.specs.Waits.{waitOnIn, takeIn}
 use Rattle.timer_calls.specs.Caught.{Caught}
-use Rattle.timer_calls.proofs.Found.{nothing-found}
-use Rattle.timer_calls.proofs.Changed.{down}
+use Rattle.timer_calls.proofs.Found.{down, nothing-found}
 use Rattle.wait_calls.specs.Over.{anyOver, listOver}
 use Rattle.wait_calls.proofs.Counts.{counts, caught-counts, over-same, acquires-over, acquires-slots}
 use Rattle.wait_calls.proofs.Begins.{begun-finding}
@@ -52,11 +51,11 @@ module _ (b : List ℕ) (n : outOfHandles? (decBlock b) ≡ false) where
   k = decBlock b
 
   pub same-found : finding k ≡ 0
-  same-found = nothing-found b n (k .threads) (k .objects) (down b n .0) (down b n .1)
+  same-found = nothing-found b n (k .threads) (k .objects) (down b .0) (down b .1)
 
   pub taken-found : (o w : ℕ) → acquireOver (objectAt (k .objects) o) ≡ false → finding (withObjects k (acquire (k .objects) o w)) ≡ 0
   unfolding acquire content _or_
-  taken-found o w v = nothing-found b n (k .threads) (acquire (k .objects) o w) (down b n .0) (λ i. down b n .1 i or v i)
+  taken-found o w v = nothing-found b n (k .threads) (acquire (k .objects) o w) (down b .0) (λ i. down b .1 i or v i)
 
   pub wait1-found : (t : ThreadOption) → k .«current_thread» ≡ t → (o nanos tick : ℕ) → acquireOver (objectAt (k .objects) o) ≡ false → finding (wait1As t k o nanos tick .kernel) ≡ 0
   wait1-found NoThread e o nanos tick v = same-found
@@ -73,7 +72,7 @@ module _ (b : List ℕ) (n : outOfHandles? (decBlock b) ≡ false) where
   any-at (o ∷ os) (suc i) v = any-at os i (or-false (acquireOver (objectAt (k .objects) o)) (anyOver (k .objects) os) v .1)
 
   pub all-found : (os : List ℕ) (w : ℕ) → acquires (k .objects) os w .overflow ≡ false → finding (withObjects k (acquires (k .objects) os w)) ≡ 0
-  all-found os w v = nothing-found b n (k .threads) (acquires (k .objects) os w) (ap (λ (s : ObjectStore). s .full) (acquires-slots os (k .objects) w) ∙ down b n .0) v
+  all-found os w v = nothing-found b n (k .threads) (acquires (k .objects) os w) (ap (λ (s : ObjectStore). s .full) (acquires-slots os (k .objects) w) ∙ down b .0) v
 
   list-found : (all : Bool) (os : List ℕ) (i w : ℕ) → listOver (k .objects) os all ≡ false → finding (withObjects k (pick all (acquires (k .objects) os w) (acquire (k .objects) (getD os i 0) w))) ≡ 0
   list-found true os i w v = all-found os w (acquires-over os (k .objects) (k .objects) w 0 refl refl ∙ v)
@@ -95,15 +94,11 @@ list-same true os s q o e = acquires-over os s q 0 0 o e
 list-same false os s q o e = any-same os s q e
 
 module _ (b e : List ℕ) (tick : ℕ) (done? : Bool) (g : Caught b e tick done?) (t : done? ≡ true) where
-  same-handles : outOfHandles? (decBlock b) ≡ false
-  unfolding outOfHandles?
-  same-handles = ap outOfHandles? (sym (g .state t)) ∙ g .handles t
-
   caught-list : (os : List ℕ) (all : Bool) → listOver (decBlock b .objects) os all ≡ false → listOver (decBlock e .objects) os all ≡ false
   caught-list os all v =
       let k = decBlock b in
       let c = ap (λ (z : Kernel). counts (z .objects .slots)) (g .state t) ∙ caught-counts (k .objects) (k .threads) tick in
-      list-same all os (decBlock e .objects) (k .objects) (down e (g .handles t) .1 ∙ sym (down b same-handles .1)) c ∙ v
+      list-same all os (decBlock e .objects) (k .objects) (down e .1 ∙ sym (down b .1)) c ∙ v
 
   pub settled : (f : IndexOption) (c : ℕ) (l : List ObjectId) (m : ℕ) (all : Bool) (nanos : ℕ) → decBlock e .«current_thread» ≡ SomeThread c
       → (e ≡ b) ⊎ (listOver (decBlock b .objects) (take m (ids l)) all ≡ false) → (e ≡ b) ⊎ (finding (takeIn f (decBlock e) c l m all nanos tick .kernel) ≡ 0)

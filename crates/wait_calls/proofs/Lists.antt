@@ -24,7 +24,7 @@ use Rattle.svc.specs.Call.{done, gives, answers, withObjects, pair}
 use Rattle.svc.specs.Waits.{waitSynchronizationN}
 use Rattle.lent.specs.Operations.{finding}
 use Rattle.outcome.specs.Outcome.{refused, given, outcome, left, outcome-0, outcome-found}
-use Rattle.answering.proofs.Handles.{plain}
+use Rattle.svc.proofs.Handles.{plain}
 use Rattle.blocking.specs.Waits.{takeIn}
 use Rattle.blocking.proofs.Opens as opens
 use Rattle.timer_calls.specs.Caught.{Caught}

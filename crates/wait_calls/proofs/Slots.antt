@@ -20,7 +20,7 @@ use Rattle.lent.specs.Operations.{finding, outOfHandles?}
 use Rattle.outcome.specs.Outcome.{refused, given, outcome, left, outcome-0, outcome-found, left-0, left-found}
 use Rattle.outcome.specs.Findings.{foundOf, parts-finding}
 use Rattle.rows.specs.Holds.{holds, put-slots}
-use Rattle.timer_calls.proofs.Changed.{down}
+use Rattle.timer_calls.proofs.Found.{down}
 use Rattle.wait_calls.proofs.Counts.{acquires-slots}
 use Rattle.wait_calls.proofs.Fits.{all-found}
 
@@ -32,7 +32,7 @@ module _ (b : List ℕ) (s : sound? b ≡ true) (n : outOfHandles? (decBlock b) 
   all = acquires (k .objects) os w
 
   full-is : all .full ≡ false
-  full-is = ap (λ (z : ObjectStore). z .full) (acquires-slots os (k .objects) w) ∙ down b n .0
+  full-is = ap (λ (z : ObjectStore). z .full) (acquires-slots os (k .objects) w) ∙ down b .0
 
   -- a count does not fit
   pub all-over : q .overflow ≡ true → (refused 8 ≡ outcome (gives (withObjects k all) i)) × (b ≡ left (gives (withObjects k all) i) b)
@@ -47,7 +47,7 @@ module _ (b : List ℕ) (s : sound? b ≡ true) (n : outOfHandles? (decBlock b) 
   all-fits v h =
       let o : all .overflow ≡ false = ap (λ (z : ObjectStore). z .overflow) (sym e) ∙ v in
       let f = all-found b n os w o in
-      let p : withSlots (k .objects) (all .slots) ≡ all = ap (λ (z : Bool). withOverflow (withSlots (k .objects) (all .slots)) z) (down b n .1 ∙ sym o) ∙ sym (acquires-slots os (k .objects) w) in (
+      let p : withSlots (k .objects) (all .slots) ≡ all = ap (λ (z : Bool). withOverflow (withSlots (k .objects) (all .slots)) z) (down b .1 ∙ sym o) ∙ sym (acquires-slots os (k .objects) w) in (
         sym (outcome-0 (gives (withObjects k all) i) f),
         put-slots (holds b s) (q .slots) h .same
             ∙ ap (λ (z : ObjectStore). encBlock (withObjects k (withSlots (k .objects) (z .slots)))) e

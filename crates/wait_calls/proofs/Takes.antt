@@ -17,8 +17,9 @@ use Rattle.lent.specs.Operations.{finding, outOfHandles?}
 use Rattle.outcome.specs.Outcome.{left, left-0, left-found}
 use Rattle.outcome.specs.Findings.{foundOf, parts-finding}
 use Rattle.rows.specs.Rows.{slotPut}
-use Rattle.timer_calls.proofs.Found.{nothing-found}
-use Rattle.timer_calls.proofs.Changed.{changed, down}
+use Rattle.timer_calls.proofs.Found.{down, nothing-found}
+use Rattle.rows.specs.Holds.{holds}
+use Rattle.objects.proofs.Changed.{put-content}
 
 module _ (b : List ℕ) (s : sound? b ≡ true) (n : outOfHandles? (decBlock b) ≡ false) (o w : ℕ) (x : Slot) (e : x ≡ slotAt (decBlock b .objects .slots) o) where
   abbrev k : Kernel
@@ -30,11 +31,11 @@ module _ (b : List ℕ) (s : sound? b ≡ true) (n : outOfHandles? (decBlock b) 
   -- the sum does not fit
   over-is : acquire (k .objects) o w .overflow ≡ false or acquireOver (x .object)
   unfolding acquire content
-  over-is = (λ i. down b n .1 i or acquireOver (sym e i .object))
+  over-is = (λ i. down b .1 i or acquireOver (sym e i .object))
 
   full-is : acquire (k .objects) o w .full ≡ false
   unfolding acquire content
-  full-is = down b n .0
+  full-is = down b .0
 
   pub taken-over : false or acquireOver (x .object) ≡ true → (8 ≡ finding after) × (b ≡ left (done after) b)
   unfolding _or_
@@ -47,9 +48,9 @@ module _ (b : List ℕ) (s : sound? b ≡ true) (n : outOfHandles? (decBlock b) 
   unfolding acquire content
   same-state v =
       ap (λ (z : Slot). withObjects k (content (k .objects) o (acquired (z .object) w))) e
-      ∙ ap (λ (z : Bool). withObjects k (withOverflow (content (k .objects) o (acquired (objectAt (k .objects) o) w)) z)) (down b n .1 ∙ sym (over-is ∙ v))
+      ∙ ap (λ (z : Bool). withObjects k (withOverflow (content (k .objects) o (acquired (objectAt (k .objects) o) w)) z)) (down b .1 ∙ sym (over-is ∙ v))
 
   pub taken-fits : (y : Slot) → y ≡ withObject x (acquired (x .object) w) → false or acquireOver (x .object) ≡ false → (0 ≡ finding after) × (slotPut b o y ≡ left (done after) b)
   taken-fits y q v =
       let f : finding after ≡ 0 = nothing-found b n (k .threads) (acquire (k .objects) o w) full-is (over-is ∙ v) in
-      (sym f, ap (slotPut b o) q ∙ changed b s o x e (acquired (x .object) w) ∙ ap encBlock (same-state v) ∙ sym (left-0 (done after) b f))
+      (sym f, ap (slotPut b o) q ∙ put-content (holds b s) o x (acquired (x .object) w) e .same ∙ ap encBlock (same-state v) ∙ sym (left-0 (done after) b f))

@@ -28,7 +28,7 @@ use Rattle.outcome.specs.declared.Outcome.{Outcome}
 use Rattle.outcome.specs.Outcome.{accepted, outcome, left}
 use Rattle.rows.specs.Holds.{holds}
 use Rattle.rows.specs.Current.{some-thread, no-thread}
-use Rattle.answering.proofs.Handles.{plain}
+use Rattle.svc.proofs.Handles.{plain}
 use Rattle.timer_calls.proofs.Found.{leaves}
 use Rattle.timer_calls.specs.Caught.{Caught}
 use Rattle.wait_calls.specs.Named.{wait1Named, wait1-is}

@@ -54,7 +54,7 @@ fn open_list(block: &[u8], words: [u32; 8], n: u32) -> Opened
             };
         }
         let h = words[i];
-        if answering::is_pseudo(h) {
+        if svc::read::is_pseudo(h) {
             return Opened {
                 objects: l,
                 known: false,
@@ -197,7 +197,7 @@ pub fn wait_synchronization_n(
         return outcome::done();
     }
     let c = types::thread::thread_value(current);
-    let nanos = answering::pair(r.r0, r.r4);
+    let nanos = svc::read::pair(r.r0, r.r4);
     let found = look::satisfied_at(block, c, all, l, m);
     wait_at(block, found, c, l, m, all, nanos, tick)
 }

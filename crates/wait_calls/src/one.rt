@@ -77,7 +77,7 @@ fn wait_named(block: &mut [u8], r: Registers, o: ObjectId, tick: u64) -> Outcome
         return outcome::done();
     }
     let c = types::thread::thread_value(current);
-    let nanos = answering::pair(r.r2, r.r3);
+    let nanos = svc::read::pair(r.r2, r.r3);
     wait_one(block, c, o, nanos, tick)
 }
 

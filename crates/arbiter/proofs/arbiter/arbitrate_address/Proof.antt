@@ -3,7 +3,7 @@ use mathlib.Core.Logic.{⊎-elim}
 use Rattle.units.specs.declared.ObjectId.{ObjectId}
 use Rattle.object.specs.declared.kept.Resolved.{Resolved}
 use Rattle.object.specs.Kept.{resolve}
-use Rattle.answering.proofs.Handles.{plain}
+use Rattle.svc.proofs.Handles.{plain}
 use Rattle.arbiter.proofs.ByKind.{no-kind, unknown, signals, signals-none, waits}
 use borrow.Author.Needs.{needs}
 use Rattle.arbiter.proofs.arbiter.arbitrate_address.Statement.{statement}

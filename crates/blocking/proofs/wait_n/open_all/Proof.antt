@@ -7,7 +7,7 @@ use Rattle.units.specs.declared.ObjectId.{ObjectId}
 use Rattle.object.specs.declared.kept.Resolved.{Resolved}
 use Rattle.object.specs.Kept.{resolve}
 use Rattle.pass.specs.Asks.{padded}
-use Rattle.answering.proofs.Handles.{plain}
+use Rattle.svc.proofs.Handles.{plain}
 use Rattle.blocking.proofs.Opens.{Opening, words-at, words-end, words-over, opened-all, opened-unknown, opened-more}
 use borrow.Author.Needs.{needs}
 use Rattle.blocking.proofs.wait_n.open_all.Statement.{statement}

@@ -4,7 +4,7 @@ use Rattle.units.specs.declared.ObjectId.{ObjectId}
 use Rattle.object.specs.declared.kept.Resolved.{Resolved}
 use Rattle.object.specs.Kept.{resolve}
 use Rattle.pass.specs.Timers.{catchUpTimers}
-use Rattle.answering.proofs.Handles.{plain}
+use Rattle.svc.proofs.Handles.{plain}
 use Rattle.blocking.proofs.Laws.{none-due, unknown1, nobody1, waits1}
 use borrow.Author.Needs.{needs}
 use Rattle.blocking.proofs.waits.wait_synchronization1.Statement.{statement}

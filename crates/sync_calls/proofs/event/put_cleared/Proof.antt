@@ -1,7 +1,7 @@
 use mathlib.Core.Path.{refl}
 use Rattle.rows.specs.Holds.{holds}
 use Rattle.pass.specs.Signal as sig
-use Rattle.sync_calls.proofs.Found.{put-content}
+use Rattle.objects.proofs.Changed.{put-content}
 use borrow.Author.Needs.{needs}
 use Rattle.sync_calls.proofs.event.put_cleared.Statement.{statement}
 use Rattle.sync_calls.proofs.event.put_cleared.Tie as tie

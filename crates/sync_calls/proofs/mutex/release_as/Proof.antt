@@ -1,5 +1,5 @@
 use Rattle.rows.specs.Holds.{holds}
-use Rattle.sync_calls.proofs.Found.{put-content}
+use Rattle.objects.proofs.Changed.{put-content}
 use borrow.Author.Needs.{needs}
 use Rattle.sync_calls.proofs.mutex.release_as.Statement.{statement}
 use Rattle.sync_calls.proofs.mutex.release_as.Tie as tie

@@ -3,7 +3,8 @@ use Rattle.block.specs.Block.{decBlock}
 use Rattle.rows.specs.Holds.{holds}
 use native.Mathlib.Omega.{arith}
 use Rattle.outcome.specs.Outcome.{outcome-0, outcome-found, left-0, left-found}
-use Rattle.sync_calls.proofs.Found.{put-content, semaphore-over, semaphore-fits, same-block}
+use Rattle.objects.proofs.Changed.{put-content}
+use Rattle.sync_calls.proofs.Found.{semaphore-over, semaphore-fits, same-block}
 use borrow.Author.Needs.{needs}
 use Rattle.sync_calls.proofs.semaphore.release_as.Statement.{statement}
 use Rattle.sync_calls.proofs.semaphore.release_as.Tie as tie

@@ -1,55 +1,46 @@
-use mathlib.Core.Path.{refl, ap, sym, _∙_}
-use borrow.Author.Tests.{not-true, not-false}
-use Rattle.types.specs.declared.kernel.Kernel.{Kernel}
-use Rattle.timer_calls.specs.Named.{setNamed, set-is}
-use Rattle.timer_calls.proofs.Found.{leaves}
-use Rattle.timer_calls.proofs.Changed.{set-finding}
+use Rattle.block.specs.Block.{decBlock}
+use Rattle.svc.specs.Timers.{setTimer}
+use Rattle.objects.proofs.Calls.{refused-call, accepted-call}
+use Rattle.timer_calls.proofs.Named.{setTimer-finding, set-is}
 use borrow.Author.Needs.{needs}
 use Rattle.timer_calls.proofs.timers.set_timer.Statement.{statement}
 use Rattle.timer_calls.proofs.timers.set_timer.Tie as tie
 
-ready-requires : tie.Need-ready-requires
-ready-requires c κs = search needs
+open-caught-requires : tie.Need-open-caught-requires
+open-caught-requires c κs = search needs
 
-decode-requires : tie.Need-decode-requires
-decode-requires c κs = search needs
-
-set-timer-requires : tie.Need-set-timer-requires
-set-timer-requires c κs = search needs
-
-finish-requires : tie.Need-finish-requires
-finish-requires c κs = search needs
+refused-requires : tie.Need-refused-requires
+refused-requires c κs = search needs
 
 same-length : tie.Need-same-length
 same-length c = search needs
 
 returns : tie.Need-returns
-returns c = let e = c .before .before .before .before .before .before .before .before .before .before .ready .ensures .0 .same (not-true _ (c .before .before .before .before .before .before .before .if1 .taken)) in
-    rw (c .before .before .finish .ensures .0, c .before .before .finish .ensures .1, c .before .before .before .set-timer .ensures, c .before .before .before .before .before .decode .ensures, e) (refl, refl)
+returns c =     let a = c .before .before .before .before .before .before .before .before .args in
+    let k = decBlock (a .block .now) in
+    refused-call (a .block .now) (a .r .r0) _ (c .before .before .before .before .before .open-caught .result) (c .before .before .before .before .before .open-caught .ensures .0) (setTimer k (a .r) (a .tick)) (setTimer-finding k (a .r) (a .tick)) (c .before .if1 .taken) _ (c .refused .ensures)
 
-set-named-requires : tie.Need-set-named-requires
-set-named-requires c κs = let t = not-false _ (c .before .if1 .left) in
-    (c .before .before .before .before .ready .ensures .0 .size, (c .before .before .before .before .ready .ensures .0 .sound, c .before .before .before .before .ready .ensures .1 t))
+set-opened-requires : tie.Need-set-opened-requires
+set-opened-requires c κs = search needs
 
 same-length-2 : tie.Need-same-length-2
 same-length-2 c = search needs
 
 returns-2 : tie.Need-returns-2
-returns-2 c = let t = not-false _ (c .before .before .before .before .if1 .left) in
-    let g = c .before .before .before .before .before .before .before .ready .ensures .0 in
-    leaves (c .before .before .before .before .before .before .before .before .before .before .args .block .now) _ _ (setNamed _ (c .before .before .before .before .before .before .before .before .before .before .args .r) (c .before .before .before .before .before .before .before .before .before .before .args .tick)) _ (set-is _ (c .before .before .before .before .before .before .before .before .before .before .args .r) (c .before .before .before .before .before .before .before .before .before .before .args .tick) ∙ ap (λ (z : Kernel). setNamed z (c .before .before .before .before .before .before .before .before .before .before .args .r) (c .before .before .before .before .before .before .before .before .before .before .args .tick)) (sym (g .state t)))
-    (set-finding _ (g .handles t) (c .before .before .before .before .before .before .before .before .before .before .args .r) (c .before .before .before .before .before .before .before .before .before .before .args .tick) (c .before .before .before .before .before .before .before .ready .ensures .1 t)) (c .before .before .set-named .ensures .0) (c .before .before .set-named .ensures .1)
+returns-2 c =     let a = c .before .before .before .before .before .before .before .before .before .before .before .before .args in
+    let k = decBlock (a .block .now) in
+    let p = c .before .before .before .before .before .before .before .before .before .open-caught .ensures in
+    let u = set-is k (a .r) (a .tick) _ (p .1 .1 (c .before .before .before .before .before .if1 .left)) (c .before .before .before .before .before .before .before .before .before .open-caught .result .object .0) (p .0 .object (c .before .before .before .before .before .if1 .left)) in
+    accepted-call (a .block .now) (a .r .r0) _ (c .before .before .before .before .before .before .before .before .before .open-caught .result) (p .0) (setTimer k (a .r) (a .tick)) (setTimer-finding k (a .r) (a .tick)) (c .before .before .before .before .before .if1 .left) _ u _ (c .before .before .set-opened .ensures .0) _ (c .before .before .set-opened .ensures .1)
 
 pub set-timer-spec : {M : Type 1} → statement M
 set-timer-spec =
     tie.close
     (tie.spec
-    ready-requires
-    decode-requires
-    set-timer-requires
-    finish-requires
+    open-caught-requires
+    refused-requires
     same-length
     returns
-    set-named-requires
+    set-opened-requires
     same-length-2
     returns-2)

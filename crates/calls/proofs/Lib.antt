@@ -1,2 +1,0 @@
--- The laws that the proofs of `calls` cite.
-pub mod Laws

@@ -1,2 +1,0 @@
--- The calls as they are computed.
-pub mod Kinds

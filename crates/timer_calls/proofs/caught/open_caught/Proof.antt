@@ -1,0 +1,46 @@
+use mathlib.Core.Path.{sym, _∙_}
+use Rattle.timer_calls.proofs.Opened.{caught-fits, opens-found, opens-caught, state-caught}
+use borrow.Author.Needs.{needs}
+use Rattle.timer_calls.proofs.caught.open_caught.Statement.{statement}
+use Rattle.timer_calls.proofs.caught.open_caught.Tie as tie
+
+timer-due-requires : tie.Need-timer-due-requires
+timer-due-requires c κs = search needs
+
+found-before-requires : tie.Need-found-before-requires
+found-before-requires c κs = search needs
+
+same-length : tie.Need-same-length
+same-length c = search needs
+
+returns : tie.Need-returns
+returns c =     let b = c .before .before .before .before .before .before .args .block .now in
+    (opens-found b (c .before .before .before .before .before .before .args .h) (c .before .before .before .before .before .before .args .tick) _ (c .before .found-before .ensures) (c .if1 .taken), (c .before .before .before .before .before .before .pre .1, λ z. absurd (c .if1 .taken z)))
+
+catch-up-if-requires : tie.Need-catch-up-if-requires
+catch-up-if-requires c κs = (c .before .before .before .before .before .before .before .pre .0, (c .before .before .before .before .before .before .before .pre .1, (c .before .before .before .before .timer-due .ensures, caught-fits (c .before .before .before .before .before .before .before .args .block .now) (c .before .before .before .before .before .before .before .args .h) (c .before .before .before .before .before .before .before .args .tick) (sym (c .before .before .found-before .ensures) ∙ c .before .if1 .left))))
+
+open-requires : tie.Need-open-requires
+open-requires c κs = search needs
+
+same-length-2 : tie.Need-same-length-2
+same-length-2 c = search needs
+
+returns-2 : tie.Need-returns-2
+returns-2 c =     let b = c .before .before .before .before .before .before .before .before .before .before .before .before .before .before .args .block .now in
+    let q = c .before .before .before .before .before .before .catch-up-if .ensures in
+    let p = c .before .before .«open» .ensures in
+    (opens-caught b (c .before .before .before .before .before .before .before .before .before .before .before .before .before .before .args .h) (c .before .before .before .before .before .before .before .before .before .before .before .before .before .before .args .tick) _ (q .0) (q .1) _ (c .before .before .«open» .result) (p .0) (sym (c .before .before .before .before .before .before .before .before .before .found-before .ensures) ∙ c .before .before .before .before .before .before .before .before .if1 .left), (p .1, state-caught b (c .before .before .before .before .before .before .before .before .before .before .before .before .before .before .args .h) (c .before .before .before .before .before .before .before .before .before .before .before .before .before .before .args .tick) _ (q .0) (q .1) _ (c .before .before .«open» .result) (p .0)))
+
+pub open-caught-spec : {M : Type 1} → statement M
+open-caught-spec =
+    tie.close
+    (tie.spec
+    timer-due-requires
+    found-before-requires
+    same-length
+    returns
+    catch-up-if-requires
+    open-requires
+    same-length-2
+    returns-2)
