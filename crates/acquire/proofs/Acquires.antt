@@ -5,13 +5,13 @@ use mathlib.Core.Logic.{_≢_, inl, inr}
 use Prim.Native.Nat.{ℕ, _-_, _<_}
 use native.Mathlib.Omega.{arith}
 use lib.ListN.{length, getD, set}
-use Rattle.laws.specs.Logic.{_or_, lt-cases}
+use Rattle.laws.specs.Logic.{_or_, lt-cases, or-end}
 use Rattle.tally.specs.Place.{isSlot, slot-past}
 use Rattle.types.specs.declared.object.Slot.{Slot}
 use Rattle.types.specs.declared.object.ObjectStore.{ObjectStore}
 use Rattle.sound.specs.View.{noSlot, slotAt, slotAt-pos, slotAt-out}
 use Rattle.object.specs.Slots.{withSlots, withObject, slotPut, content}
-use Rattle.object.proofs.Laws.{slotAt-none, slotPut-none, slotPut-pos, slotPut-far, or-end}
+use Rattle.object.proofs.Laws.{slotAt-none, slotPut-none, slotPut-pos, slotPut-far}
 use Rattle.pass.specs.Signal.{acquired, acquireOver, withOverflow, acquire}
 
 module _ (s : ObjectStore) (k w : ℕ) where

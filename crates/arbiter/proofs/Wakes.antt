@@ -8,26 +8,23 @@ use native.Mathlib.Numerals.{add-one}
 use native.Mathlib.Omega.{arith}
 use lib.Dec.{eqb}
 use lib.ListN.{length, take, drop, set, getD, drop-of-length-le}
-use lib.Seq.{take-all, set-getD}
+use lib.Seq.{take-all}
 use borrow.Author.Tests.{eq-eqb, ne-eqb}
 use Rattle.laws.specs.Logic.{_and_, _or_}
 use Rattle.laws.specs.Count.{at}
 use Rattle.laws.specs.Walk.{walk, walk-nil, walk-out, walk-go}
 use Rattle.types.specs.declared.thread.Thread as th
-use Rattle.types.specs.declared.object.KObject.{KObject}
-use Rattle.types.specs.declared.object.KObject.the-variants.{Free, Thread, Event, Mutex, Semaphore, Timer, AddressArbiter, Process, ResourceLimit}
-use Rattle.types.specs.declared.object.Slot.{Slot}
+use Rattle.types.specs.declared.object.KObject.the-variants.{Thread}
 use Rattle.types.specs.declared.object.Waiter.{Waiter}
 use Rattle.types.specs.declared.object.ObjectStore.{ObjectStore}
 use Rattle.types.specs.declared.kernel.Kernel.{Kernel}
 use Rattle.types.specs.Object.{headOf}
-use Rattle.sound.specs.View.{threadAt, slotAt, objectAt, noSlot, waiterNexts, waiterAddresses}
+use Rattle.sound.specs.View.{threadAt, objectAt, waiterNexts, waiterAddresses}
 use Rattle.sound.specs.Records.{chainOf}
 use Rattle.object.specs.declared.waiters.Links.{Links}
-use Rattle.object.specs.Slots.{slotPut}
-use Rattle.object.specs.Waiters.{waiterAt, link, withHead, relinked}
+use Rattle.object.specs.Waiters.{waiterAt, link, relinked}
 use Rattle.object.specs.Cells.{joined, linksOf, threads-joined}
-use Rattle.object.proofs.Laws.{at-waiters, at-thread}
+use Rattle.object.proofs.Laws.{at-waiters, at-thread, slotPut-same, head-same}
 use Rattle.kernel.specs.NextEvent.{contains}
 use Rattle.thread.specs.Threads.{withThreads}
 use Rattle.svc.specs.Arbiter.{toWake, unlinkWoken, wokenUp, wakeAll, signalAddress, wokenAt}
@@ -146,22 +143,6 @@ signal-is k o a value =
     )
 
 -- without records it changes nothing
-head-same : (x : KObject) → headOf x ≡ 0 → withHead x 0 ≡ x
-head-same (Free n) e = refl
-head-same (Thread t) e = refl
-head-same (Event v) e = refl
-head-same (Mutex m) e = refl
-head-same (Semaphore s) e = refl
-head-same (Timer t) e = refl
-head-same (AddressArbiter a) e = ap (λ (h : ℕ). AddressArbiter (record { waiters = h })) (sym e)
-head-same Process e = refl
-head-same ResourceLimit e = refl
-
-put-same : (l : List Slot) (o : ℕ) → slotPut l o (slotAt l o) ≡ l
-unfolding slotPut slotAt
-put-same l zero = refl
-put-same l (suc i) = set-getD l i noSlot
-
 wake-none : (i : ℕ) (ts : List th.Thread) → wakeAll [] i ts ≡ ts
 unfolding wakeAll contains
 wake-none i [] = refl
@@ -174,5 +155,5 @@ signal-none k o a value e =
       walk-nil (waiterNexts (k .objects .waiters)) 64 (headOf (objectAt (k .objects) o)) e,
       wake-none 0 (k .threads),
       head-same (objectAt (k .objects) o) e,
-      put-same (k .objects .slots) o,
+      slotPut-same (k .objects .slots) o,
     )

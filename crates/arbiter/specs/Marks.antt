@@ -10,7 +10,7 @@ use lib.Dec.{eqb, ltb}
 use lib.ListN.{length, getD, set, length-append, List·getD-map, List·getD-eq-default}
 use lib.Seq.{getD-set-same, getD-set-other}
 use borrow.Author.Tests.{eq-eqb, ne-eqb, eqb-true}
-use Rattle.laws.specs.Logic.{pick, _and_, _or_, and-true, lt-cases}
+use Rattle.laws.specs.Logic.{pick, _and_, _or_, and-true, lt-cases, or-true, or-end}
 use Rattle.laws.specs.Count.{at, one?}
 use Rattle.types.specs.declared.thread.Thread.{Thread}
 use Rattle.types.specs.declared.object.Waiter.{Waiter}
@@ -103,16 +103,6 @@ contains-end (x ∷ l) t u = go (eqb x u) (contains-end l t u)
     go : (b : Bool) → contains (l ++ (t ∷ [])) u ≡ contains l u or eqb t u → b or contains (l ++ (t ∷ [])) u ≡ (b or contains l u) or eqb t u
     go true e = refl
     go false e = e
-
-or-end : (b : Bool) → b or false ≡ b
-unfolding _or_
-or-end true = refl
-or-end false = refl
-
-or-true : (b : Bool) → b or true ≡ true
-unfolding _or_
-or-true true = refl
-or-true false = refl
 
 -- one more is woken, which has a mark
 tells-more : (ts : List Thread) (a : ℕ) (p woken : List ℕ) (t : ℕ) → Tells ts a p woken → marked p t ≡ true → Tells ts a (set p t 2) (woken ++ (t ∷ []))

@@ -3,10 +3,9 @@ use mathlib.Core.Path.{_≡_, refl, _∙_}
 use mathlib.Core.Bool.{false}
 use mathlib.Core.Logic.{_≢_}
 use mathlib.Core.List.{List}
-use Prim.Native.Nat.{ℕ, _≤_}
+use Prim.Native.Nat.{ℕ}
 use native.Mathlib.Omega.{arith}
 use lib.Dec.{eqb}
-use lib.ListN.{length, List·getD-eq-default}
 use borrow.Author.Tests.{eq-eqb, ne-eqb}
 use Rattle.laws.specs.Logic.{pick}
 use Rattle.types.specs.declared.thread.Thread.{Thread}
@@ -15,16 +14,11 @@ use Rattle.types.specs.declared.thread.ThreadOption.the-variants.{NoThread, Som
 use Rattle.types.specs.declared.object.ObjectStore.{ObjectStore}
 use Rattle.types.specs.declared.kernel.Kernel.{Kernel}
 use Rattle.types.specs.Thread.{threadFlag, threadValue}
-use Rattle.sound.specs.View.{threadAt, noThread}
 use Rattle.object.specs.Kept.{resolve}
 use Rattle.pass.specs.Timers.{timerDue, catchUpTimers}
 use Rattle.svc.specs.declared.Registers.{Registers}
 use Rattle.svc.specs.Call.{done, answers, withObjects, pair}
 use Rattle.svc.specs.Waits.{wait1As, waitSynchronization1}
-
--- a number past the places reads as no thread
-pub far : (ts : List Thread) (t : ℕ) → length ts ≤ t → threadAt ts t ≡ noThread
-far ts t h = List·getD-eq-default ts noThread h
 
 -- ---- nothing came due: the store stays
 pub none-due : (s : ObjectStore) (ts : List Thread) (tick : ℕ) → timerDue tick (s .slots) ≡ false → s ≡ catchUpTimers s ts tick

@@ -27,7 +27,7 @@ use Rattle.pass.specs.declared.IndexOption.the-variants.{NoIndex, SomeIndex}
 use Rattle.pass.specs.Asks.{padded}
 use Rattle.pass.specs.Timers.{catchUpTimers}
 use Rattle.pass.specs.Waits.{satisfiedAt}
-use Rattle.wait.specs.Lists.{padded-more, padded-first}
+use Rattle.pass.specs.Padded.{padded-more, padded-first}
 use Rattle.svc.specs.declared.Registers.{Registers}
 use Rattle.svc.specs.Call.{done, answers, withObjects, pair}
 use Rattle.svc.specs.Waits.{resolveAll, resolveStore, takeAt, waitNAs, waitSynchronizationN}

@@ -1,13 +1,12 @@
 -- 0x22: kind 0 wakes threads that are parked at the address, the others park the current thread.
 use mathlib.Core.Path.{_≡_, refl, ap, sym, subst, _∙_}
 use mathlib.Core.Bool.{Bool, true, false, not}
-use mathlib.Core.Logic.{_≢_, _⊎_, inl, inr}
+use mathlib.Core.Logic.{_≢_, inl, inr}
 use mathlib.Core.List.{List, [], _∷_, _++_}
 use Prim.Native.Nat.{ℕ, zero, suc, _+_, _<_}
 use native.Mathlib.Omega.{arith}
 use lib.Dec.{eqb, ltb}
 use lib.ListN.{length}
-use borrow.Author.Tests.{eqb-true}
 use Rattle.laws.specs.Logic.{pick, pick-yes, pick-no, _and_, _or_, and-true, true-and, false-true}
 use Rattle.units.specs.Ticks.{nanosToTicks}
 use Rattle.types.specs.declared.thread.ThreadOption.{ThreadOption}
@@ -42,26 +41,9 @@ use Rattle.svc.specs.Call.{done, answers, invalidHandle, withObjects, pair, neg
 use Rattle.svc.specs.Sync.{biased}
 use Rattle.svc.specs.Arbiter.{waitsArbiter, parkedAt, wakesAt, wokenBy, toWake, wokenUp, wakeAll, wokenAt, signalAddress, hasTimeout, parkTime, parked, parkAs, park, waitBelow, arbitrateFor, arbitrateBy, arbitrateAddress}
 use Rattle.deadlines.specs.Effect.{Runs, running-status, running-in, Timed, runsOut, timed-negative, timed-out, Effect, same-effect, effect-store}
+use Rattle.kernel.specs.Marks.{contains-end}
 
 -- ---- who is woken
-or-cases : (a b : Bool) → a or b ≡ true → (a ≡ true) ⊎ (b ≡ true)
-unfolding _or_
-or-cases true b e = inl refl
-or-cases false b e = inr e
-
-contains-last : (xs : List ℕ) (y w : ℕ) → contains (xs ++ (y ∷ [])) w ≡ true → (contains xs w ≡ true) ⊎ (y ≡ w)
-unfolding contains _or_
-contains-last [] y w e = elim (or-cases (eqb y w) false e) [ inl h ↦ inr (eqb-true y w h) | inr h ↦ false-true h ]
-contains-last (x ∷ xs) y w e =
-    elim (or-cases (eqb x w) (contains (xs ++ (y ∷ [])) w) e) [
-      | inl h ↦ inl (rw h)
-      | inr h ↦ elim (contains-last xs y w h) [ inl g ↦ inl (or-right (eqb x w) (contains xs w) g) | inr g ↦ inr g ]
-    ]
-  where
-    or-right : (a b : Bool) → b ≡ true → a or b ≡ true
-    or-right true b g = refl
-    or-right false b g = g
-
 module _ (ts : List Thread) (ws : List Waiter) (a value : ℕ) where
   -- every thread of the list is parked at the address
   abbrev AllParked : List ℕ → Type 0
@@ -72,7 +54,7 @@ module _ (ts : List Thread) (ws : List Waiter) (a value : ℕ) where
     where
       go : (q : Bool) → wakesAt ts ws a value woken x ≡ q → AllParked (pick q (woken ++ (waiterAt ws x .thread ∷ [])) woken)
       go true e w f =
-          elim (contains-last woken (waiterAt ws x .thread) w f) [
+          elim (contains-end woken (waiterAt ws x .thread) w f) [
             | inl g ↦ h w g
             | inr g ↦ subst (λ (j : ℕ). parkedAt (threadAt ts j) a ≡ true) g (and-true _ _ (and-true _ _ (and-true _ _ e .1) .0) .0)
           ]

@@ -9,7 +9,7 @@ use lib.Dec.{ltb}
 use lib.ListN.{length, getD, take, drop, replicate, length-map}
 use lib.Seq.{drop-drop}
 use borrow.Author.Tests.{lt-ltb}
-use Rattle.laws.specs.Logic.{true-and, _or_}
+use Rattle.laws.specs.Logic.{true-and, _or_, or-end}
 use Rattle.laws.specs.All.{All}
 use Rattle.laws.specs.Tally.{tallyAll}
 use Rattle.codec.specs.Bytes.{over}
@@ -26,7 +26,6 @@ use Rattle.sound.specs.Question.{sound?, t-block, encoded-sound}
 use Rattle.tally.specs.Place.{isSlot, slotIndex, index-slot}
 use Rattle.object.specs.Slots.{withSlots}
 use Rattle.object.specs.Slots as object
-use Rattle.object.proofs.Laws.{or-end}
 use Rattle.pass.specs.Signal.{withOverflow}
 use Rattle.pass.specs.Timers.{firedSlot, anyOver, fireTimers, timerDue, catchUpTimers}
 use Rattle.rows.specs.Rows.{slotPut}

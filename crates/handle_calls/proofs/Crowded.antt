@@ -23,12 +23,13 @@ use Rattle.svc.specs.declared.Registers.{Registers}
 use Rattle.svc.specs.declared.Served.{Served}
 use Rattle.svc.specs.Call.{answers, gives, withHandles, withObjects, resolved}
 use Rattle.svc.specs.Handles.{duplicateHandle}
+use Rattle.calling.specs.Resolves.{resolve-overflow}
 use Rattle.lent.specs.Operations.{finding, outOfHandles?}
 use Rattle.rows.specs.Holds.{holds}
 use Rattle.outcome.specs.Outcome.{refused, answered, accepted, outcome, left, outcome-0, outcome-found, left-0, left-found}
 use Rattle.outcome.specs.Findings.{foundOf, none-found, next-over, parts-finding, both-finding}
 use Rattle.objects.specs.Open.{noRoom, Names}
-use Rattle.objects.proofs.Room.{resolved-full, resolved-overflow}
+use Rattle.objects.proofs.Room.{resolved-full}
 
 module _ (b : List ℕ) (s : sound? b ≡ true) (r : Registers) where
   abbrev k : Kernel
@@ -59,7 +60,7 @@ module _ (b : List ℕ) (s : sound? b ≡ true) (r : Registers) where
 
   opened-finding : finding (withObjects k (x .store)) ≡ foundOf (noRoom k (r .r1)) (outOfHandles? k)
   unfolding _or_
-  opened-finding = parts-finding b (k .threads) (x .store) ∙ (λ i. foundOf (resolved-full k (r .r1) none-full i) ((resolved-overflow k (r .r1) ∙ none-sum) i or outOfHandles? k))
+  opened-finding = parts-finding b (k .threads) (x .store) ∙ (λ i. foundOf (resolved-full k (r .r1) none-full i) ((resolve-overflow (k .«current_thread») (k .handles) (k .objects) (r .r1) ∙ none-sum) i or outOfHandles? k))
 
   given-finding : finding (withHandles k (give (k .handles) (x .object .0)) (addRef (x .store) (x .object .0))) ≡ foundOf (noRoom k (r .r1) or leb 256 (k .handles .count)) (leb 0xFFFF8000 (k .handles .next .0))
   unfolding give decBlock outOfHandles? _or_
@@ -67,7 +68,7 @@ module _ (b : List ℕ) (s : sound? b ≡ true) (r : Registers) where
       let t = give (k .handles) (x .object .0) in
       let y = add-ref-held (x .store) (x .object .0) in
       both-finding b t (addRef (x .store) (x .object .0))
-      ∙ (λ i. foundOf ((ap (λ (z : ObjectStore). z .full) y ∙ resolved-full k (r .r1) none-full) i or leb 256 (k .handles .count)) ((ap (λ (z : ObjectStore). z .overflow) y ∙ resolved-overflow k (r .r1) ∙ none-sum) i or next-over (k .handles .next .0) i))
+      ∙ (λ i. foundOf ((ap (λ (z : ObjectStore). z .full) y ∙ resolved-full k (r .r1) none-full) i or leb 256 (k .handles .count)) ((ap (λ (z : ObjectStore). z .overflow) y ∙ resolve-overflow (k .«current_thread») (k .handles) (k .objects) (r .r1) ∙ none-sum) i or next-over (k .handles .next .0) i))
 
   refuses : (n : ℕ) → finding (call .kernel) ≡ n → n ≢ 0 → (refused n ≡ outcome call) × (b ≡ left call b)
   refuses n f z = (sym (outcome-found call n f z), sym (left-found call b (λ w. z (sym f ∙ w))))

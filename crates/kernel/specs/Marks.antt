@@ -1,7 +1,8 @@
 -- `next_event` as it is computed: the objects that blocked threads wait on are marked in an array.
 use mathlib.Core.Path.{_≡_, refl, ap, sym, _∙_}
 use mathlib.Core.Bool.{Bool, true, false, cond}
-use mathlib.Core.List.{List, [], _∷_, map}
+use mathlib.Core.List.{List, [], _∷_, _++_, map}
+use mathlib.Core.Logic.{_⊎_, inl, inr}
 use Prim.Native.Nat.{ℕ, zero, suc, _+_, _≤_, _<_}
 use native.Mathlib.Omega.{arith}
 use lib.Dec.{eqb, ltb}
@@ -87,3 +88,17 @@ module _ (ts : List Thread) (n : length ts ≡ 32) (a : All (λ l. length l ≤ 
   unfolding dueMarked nextDue
   due-is best o [] h = refl
   due-is best o (s ∷ ss) h = rw (marked o (omega arith)) (due-is (dueAfter (waitedOn ts o) best s) (suc o) ss (omega arith))
+
+-- ---- one more at the end of a list
+pub contains-end : (xs : List ℕ) (y i : ℕ) → contains (xs ++ (y ∷ [])) i ≡ true → (contains xs i ≡ true) ⊎ (y ≡ i)
+unfolding contains _or_
+contains-end [] y i e = go (eqb y i) refl e
+  where
+    go : (b : Bool) → eqb y i ≡ b → b or false ≡ true → (false ≡ true) ⊎ (y ≡ i)
+    go true q e = inr (eqb-true y i q)
+    go false q e = inl e
+contains-end (x ∷ xs) y i e = go (eqb x i) e (contains-end xs y i)
+  where
+    go : (b : Bool) → b or contains (xs ++ (y ∷ [])) i ≡ true → (contains (xs ++ (y ∷ [])) i ≡ true → (contains xs i ≡ true) ⊎ (y ≡ i)) → (b or contains xs i ≡ true) ⊎ (y ≡ i)
+    go true e ih = inl refl
+    go false e ih = ih e

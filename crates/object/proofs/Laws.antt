@@ -7,7 +7,7 @@ use Prim.Native.Nat.{ℕ, zero, suc, _+_, _-_, _≤_, _<_}
 use native.Mathlib.Numerals.{add-one}
 use native.Mathlib.Omega.{arith}
 use lib.Dec.{eqb}
-use lib.ListN.{length, getD, set, take, drop, length-map, length-take, List·getD-map, List·getD-eq-default, drop-of-length-le}
+use lib.ListN.{length, getD, set, take, drop, length-map, length-take, List·getD-map, List·getD-eq-default, drop-of-length-le, length-set}
 use lib.Seq.{drop-cons, set-out, set-getD, getD-take}
 use borrow.Author.Tests.{eq-eqb, ne-eqb}
 use Rattle.laws.specs.Logic.{pick, pick-yes, pick-no, _and_, _or_, and-false}
@@ -52,7 +52,12 @@ unfolding slotPut
 slotPut-far l zero v h = refl
 slotPut-far l (suc n) v h = set-out l n v (omega arith)
 
-slotPut-same : (l : List Slot) (o : ℕ) → slotPut l o (slotAt l o) ≡ l
+pub length-slotPut : (l : List Slot) (r : ℕ) (v : Slot) → length (slotPut l r v) ≡ length l
+unfolding slotPut
+length-slotPut l zero v = refl
+length-slotPut l (suc i) v = length-set l i v
+
+pub slotPut-same : (l : List Slot) (o : ℕ) → slotPut l o (slotAt l o) ≡ l
 unfolding slotAt slotPut
 slotPut-same l zero = refl
 slotPut-same l (suc i) = set-getD l i noSlot
@@ -87,16 +92,6 @@ put-in f l o n = go (isSlot o) refl
         none zero h = slotPut-none l 0 _ refl
         none (suc i) h = slotPut-far l (suc i) _ (omega (arith, n, slot-past (suc i) h (omega arith)))
 
--- ---- tests
-pub or-true : (a : Bool) → a or true ≡ true
-unfolding _or_
-or-true true = refl
-or-true false = refl
-
-pub or-end : (a : Bool) → a or false ≡ a
-unfolding _or_
-or-end true = refl
-or-end false = refl
 
 -- ---- a list of objects, first to last
 abbrev noId : ObjectId
@@ -252,7 +247,7 @@ first-walk nx f (suc h) r = rw (ne-eqb (suc h) 0 (λ e. omega arith))
 abbrev pub withRecords : ObjectStore → List Slot → List Waiter → ℕ → ObjectStore
 withRecords s l ws free = record { slots = l; free = s .free; waiters = ws; «free_waiter» = free; «thread_objects» = s .«thread_objects»; «process_object» = s .«process_object»; full = s .full; overflow = s .overflow }
 
-head-same : (x : KObject) → headOf x ≡ 0 → withHead x 0 ≡ x
+pub head-same : (x : KObject) → headOf x ≡ 0 → withHead x 0 ≡ x
 head-same (Free n) e = refl
 head-same (Thread t) e = refl
 head-same (Event v) e = refl

@@ -15,8 +15,7 @@ use Rattle.types.specs.declared.thread.ThreadOption.the-variants.{NoThread, Som
 use Rattle.types.specs.declared.kernel.Kernel.{Kernel}
 use Rattle.block.specs.Block.{decBlock, encBlock}
 use Rattle.sound.specs.View.{slotAt, objectAt}
-use Rattle.sound.specs.Objects.{refOf, keptAt, KeptOk}
-use Rattle.sound.specs.Objects.Ref.{ofThread, ofProcess, ofNone}
+use Rattle.sound.specs.Objects.{refOf, keptAt, KeptOk, none-thread, none-process}
 use Rattle.sound.specs.Question.{sound?}
 use Rattle.object.specs.declared.kept.Resolved.{Resolved}
 use Rattle.object.specs.Kept.{resolve, ofCurrent, threadObject, processObject}
@@ -25,12 +24,6 @@ use Rattle.rows.specs.Holds.{holds}
 use Rattle.objects.specs.declared.open.Opened.{Opened}
 use Rattle.objects.specs.Open.{Opens}
 use Rattle.objects.proofs.Sound.{opened-sound}
-
-none-thread : (t : ℕ) → ofNone ≡ ofThread t → ⊥
-none-thread t e = let z : _≡_ {A = ℕ} 0 1 = cc in omega arith
-
-none-process : ofNone ≡ ofProcess → ⊥
-none-process e = let z : _≡_ {A = ℕ} 0 1 = cc in omega arith
 
 free-other : (c : se.Semaphore) → Free 0 ≡ Semaphore c → ⊥
 free-other c e = let z : _≡_ {A = ℕ} 0 1 = cc in omega arith

@@ -6,7 +6,7 @@ use mathlib.Core.Logic.{_≢_}
 use Prim.Native.Nat.{ℕ}
 use lib.Dec.{eqb}
 use borrow.Author.Tests.{eq-eqb, ne-eqb}
-use Rattle.laws.specs.Logic.{pick, _and_, _or_}
+use Rattle.laws.specs.Logic.{pick, _and_, _or_, and-end, and-false}
 use Rattle.codec.specs.Bytes.{le}
 use Rattle.codec.specs.Layout.{decAs}
 use Rattle.types.specs.declared.object.ObjectStore.{ObjectStore}
@@ -21,64 +21,32 @@ use Rattle.object.specs.Kept.{threadObject, processObject, ofCurrent, resolve}
 use Rattle.svc.specs.Call.{resolved}
 use Rattle.objects.specs.Open.{makesCurrent, noRoom}
 
-and-none : (f : Bool) → f and false ≡ false
-unfolding _and_
-and-none true = refl
-and-none false = refl
-
-and-all : (f : Bool) → f and true ≡ f
-unfolding _and_
-and-all true = refl
-and-all false = refl
-
 -- y is s, or s with an object more
 made-full : (t f : Bool) (s y : ObjectStore) → s .full ≡ false → y .full ≡ s .full or f → pick t y s .full ≡ f and t
 unfolding _or_
-made-full true f s y e g = g ∙ ap (λ (v : Bool). v or f) e ∙ sym (and-all f)
-made-full false f s y e g = e ∙ sym (and-none f)
-
-made-overflow : (t : Bool) (s y : ObjectStore) → y .overflow ≡ s .overflow → pick t y s .overflow ≡ s .overflow
-made-overflow true s y e = e
-made-overflow false s y e = refl
+made-full true f s y e g = g ∙ ap (λ (v : Bool). v or f) e ∙ sym (and-end f)
+made-full false f s y e g = e ∙ sym (and-false f)
 
 module _ (s : ObjectStore) (e : s .full ≡ false) where
   current-full : (c : ThreadOption) → ofCurrent s c .store .full ≡ eqb (s .free) 0 and makesCurrent s c
   unfolding threadObject insert
-  current-full NoThread = e ∙ sym (and-none (eqb (s .free) 0))
+  current-full NoThread = e ∙ sym (and-false (eqb (s .free) 0))
   current-full (SomeThread t) = made-full (eqb (keptAt s t) 0) (eqb (s .free) 0) s _ e refl
 
   process-full : processObject s .full ≡ eqb (s .free) 0 and eqb (s .«process_object» .0) 0
   unfolding processObject insert
   process-full = made-full (eqb (s .«process_object» .0) 0) (eqb (s .free) 0) s _ e refl
 
-current-overflow : (s : ObjectStore) (c : ThreadOption) → ofCurrent s c .store .overflow ≡ s .overflow
-unfolding threadObject insert
-current-overflow s NoThread = refl
-current-overflow s (SomeThread t) = made-overflow (eqb (keptAt s t) 0) s _ refl
-
-process-overflow : (s : ObjectStore) → processObject s .overflow ≡ s .overflow
-unfolding processObject insert
-process-overflow s = made-overflow (eqb (s .«process_object» .0) 0) s _ refl
-
 full-as : (p q f a b : Bool) (x y z : Resolved) → x .store .full ≡ f and a → y .store .full ≡ f and b → z .store .full ≡ false
     → pick p x (pick q y z) .store .full ≡ f and pick p a (pick q b false)
 full-as true q f a b x y z e g h = e
 full-as false true f a b x y z e g h = g
-full-as false false f a b x y z e g h = h ∙ sym (and-none f)
-
-overflow-as : (p q : Bool) (v : Bool) (x y z : Resolved) → x .store .overflow ≡ v → y .store .overflow ≡ v → z .store .overflow ≡ v → pick p x (pick q y z) .store .overflow ≡ v
-overflow-as true q v x y z e g h = e
-overflow-as false true v x y z e g h = g
-overflow-as false false v x y z e g h = h
+full-as false false f a b x y z e g h = h ∙ sym (and-false f)
 
 module _ (k : Kernel) (h : ℕ) where
   pub resolved-full : k .objects .full ≡ false → resolved k h .store .full ≡ noRoom k h
   unfolding resolve
   resolved-full e = full-as (eqb h 0xFFFF8000) (eqb h 0xFFFF8001) (eqb (k .objects .free) 0) _ _ _ _ _ (current-full (k .objects) e (k .«current_thread»)) (process-full (k .objects) e) e
-
-  pub resolved-overflow : resolved k h .store .overflow ≡ k .objects .overflow
-  unfolding resolve
-  resolved-overflow = overflow-as (eqb h 0xFFFF8000) (eqb h 0xFFFF8001) (k .objects .overflow) _ _ _ (current-overflow (k .objects) (k .«current_thread»)) (process-overflow (k .objects)) refl
 
 -- ---- as the block is asked; f is its first free slot, p the process's object
 module _ (b : List ℕ) (h f : ℕ) (e : f ≡ le 4 b 32) where

@@ -5,7 +5,7 @@ use mathlib.Core.List.{List, [], _∷_}
 use Prim.Native.Nat.{ℕ, zero, suc, _≤_, _<_}
 use native.Mathlib.Omega.{arith}
 use lib.Dec.{eqb}
-use lib.ListN.{length, take}
+use lib.ListN.{length}
 use borrow.Author.Tests.{eqb-false}
 use Rattle.laws.specs.Logic.{pick, or-false, false-true}
 use Rattle.types.specs.declared.thread.ThreadOption.{ThreadOption}
@@ -22,6 +22,7 @@ use Rattle.soundness.specs.Objects.{named-slot, Known}
 use Rattle.soundness.specs.Kept.{resolve-full}
 use Rattle.soundness.specs.Whole.{Parts}
 use Rattle.pass.specs.Asks.{padded}
+use Rattle.pass.specs.Padded.{padded-first}
 use Rattle.passing.specs.Begins.{Waitable}
 use Rattle.calling.specs.Resolves.{resolve-overflow, resolved-found, resolved-parts, resolved-named}
 use Rattle.svc.specs.Call.{withObjects, resolved}
@@ -112,13 +113,6 @@ unfolding padded
 padded-zeros zero = tt
 padded-zeros (suc m) = (refl, padded-zeros m)
 
-padded-take : (m : ℕ) (os : List ℕ) → length os ≤ m → take (length os) (ids (padded m os)) ≡ os
-unfolding padded
-padded-take zero [] l = refl
-padded-take zero (o ∷ os) l = absurd (omega arith)
-padded-take (suc m) [] l = refl
-padded-take (suc m) (o ∷ os) l = ap (λ (x : List ℕ). o ∷ x) (padded-take m os (omega arith))
-
 module _ (k : Kernel) (p : Parts k) where
   padded-places : (m : ℕ) (os : List ℕ) → length os ≤ m → Known (k .objects) (names (k .handles) (k .threads)) os → Places (length os) (ids (padded m os))
   unfolding padded
@@ -130,6 +124,6 @@ module _ (k : Kernel) (p : Parts k) where
   pub known-waitable : (os : List ℕ) → length os ≤ 8 → Known (k .objects) (names (k .handles) (k .threads)) os → Waitable k (padded 8 os) (length os)
   known-waitable os l a = record {
     places = padded-places 8 os l a;
-    known = subst (Known (k .objects) (names (k .handles) (k .threads))) (sym (padded-take 8 os l)) a;
+    known = subst (Known (k .objects) (names (k .handles) (k .threads))) (sym (padded-first 8 os l)) a;
     size = padded-length 8 os;
   }

@@ -1,14 +1,14 @@
 -- A signal at an address leaves a sound state: records go back to the free chain, and the threads that wake had no list.
 use mathlib.Core.Path.{_≡_, refl, ap, sym, subst, _∙_}
 use mathlib.Core.Bool.{Bool, true, false}
-use mathlib.Core.Logic.{_⊎_, inl, inr}
+use mathlib.Core.Logic.{inl, inr}
 use mathlib.Core.List.{List, [], _∷_, _++_, append-assoc}
 use Prim.Native.Nat.{ℕ, zero, suc, _+_, _≤_, _<_}
 use native.Mathlib.Omega.{arith}
 use lib.Dec.{eqb}
 use lib.ListN.{length, set, length-append}
 use lib.Seq.{getD-append-seam, set-append-seam}
-use borrow.Author.Tests.{eqb-true, eq-eqb, ne-eqb}
+use borrow.Author.Tests.{eq-eqb, ne-eqb}
 use Rattle.laws.specs.Logic.{pick, _or_, and-true, pick-yes, pick-no, false-true}
 use Rattle.laws.specs.Count.{ind-same, ind-eq, count}
 use Rattle.types.specs.declared.thread.ThreadStatus.{ThreadStatus}
@@ -38,6 +38,7 @@ use Rattle.passing.specs.Alike.{store-parts}
 use Rattle.passing.specs.Threads.{live-ok, live-widths, thread-parts}
 use Rattle.passing.specs.Sleeps.{unlisted-zeros}
 use Rattle.svc.specs.Arbiter.{waitsArbiter, wakesAt, staysAt, wokenBy, toWake, unlinkWoken, wokenUp, wakeAll, wokenAt, signalAddress}
+use Rattle.kernel.specs.Marks.{contains-end}
 
 -- ---- the records that go, as `unlink` takes them out
 unlink-as : (f g : ℕ → Bool) (ws : List Waiter) (free : ℕ) (xs : List ℕ) → ((x : ℕ) → 0 < count x xs → f x ≡ g x) → unlink f ws free xs ≡ unlink g ws free xs
@@ -128,19 +129,6 @@ module _ (k : Kernel) (p : Parts k) (i : ℕ) (w : waitsArbiter (threadAt (k .th
       (λ o q. zeros-count o (ids (v .«wait_objects»)) q z ∙ sym (zeros-count o (ids (old .«wait_objects»)) q (unlisted-zeros k p i live (waits-none (old .status) (old .«wait_count») w (u .only)))))
 
 -- ---- the threads woken were parked
-contains-end : (xs : List ℕ) (y i : ℕ) → contains (xs ++ (y ∷ [])) i ≡ true → (contains xs i ≡ true) ⊎ (y ≡ i)
-unfolding contains _or_
-contains-end [] y i e = go (eqb y i) refl e
-  where
-    go : (b : Bool) → eqb y i ≡ b → b or false ≡ true → (false ≡ true) ⊎ (y ≡ i)
-    go true q e = inr (eqb-true y i q)
-    go false q e = inl e
-contains-end (x ∷ xs) y i e = go (eqb x i) e (contains-end xs y i)
-  where
-    go : (b : Bool) → b or contains (xs ++ (y ∷ [])) i ≡ true → (contains (xs ++ (y ∷ [])) i ≡ true → (contains xs i ≡ true) ⊎ (y ≡ i)) → (b or contains xs i ≡ true) ⊎ (y ≡ i)
-    go true e ih = inl refl
-    go false e ih = ih e
-
 abbrev AllWait : List Thread → List ℕ → Type 0
 AllWait ts woken = (i : ℕ) → contains woken i ≡ true → waitsArbiter (threadAt ts i .status) ≡ true
 

@@ -5,3 +5,4 @@ pub mod Waits
 pub mod Pick
 pub mod Schedule
 pub mod Asks
+pub mod Padded

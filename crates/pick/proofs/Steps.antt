@@ -7,22 +7,18 @@ use native.Mathlib.Numerals.{add-one}
 use native.Mathlib.Omega.{arith}
 use lib.Dec.{eqb, ltb}
 use borrow.Author.Tests.{ne-eqb, eqb-false, ltb-false}
-use lib.ListN.{length, getD, drop, drop-of-length-le, List·getD-eq-default}
+use lib.ListN.{length, getD, drop, drop-of-length-le}
 use lib.Seq.{drop-cons}
 use Rattle.laws.specs.Logic.{pick, _and_, _or_}
 use Rattle.types.specs.declared.thread.ThreadOption.{ThreadOption}
 use Rattle.types.specs.declared.thread.ThreadOption.the-variants.{NoThread, SomeThread}
 use Rattle.types.specs.declared.thread.Thread.{Thread}
-use Rattle.sound.specs.View.{threadAt, noThread}
+use Rattle.sound.specs.View.{threadAt, noThread, threadAt-out}
 use Rattle.sound.specs.Threads.{isCurrent}
 use Rattle.pass.specs.Pick.{isRunnable, othersFrom, better, leastPriority, runsAt, firstFrom, stands, moreUrgent, otherFrom}
 use Rattle.thread.specs.Threads.{least}
 use Rattle.pick.specs.Best.{option, stands?}
 use Rattle.pick.specs.Best as computed
-
--- a number past the places reads as no thread
-pub far : (ts : List Thread) (t : ℕ) → length ts ≤ t → threadAt ts t ≡ noThread
-far ts t h = List·getD-eq-default ts noThread h
 
 -- ---- the least priority
 pub best-step : (ts : List Thread) (i b : ℕ) → i < length ts → leastPriority b (drop i ts) ≡ leastPriority (better b (getD ts i noThread)) (drop (i + 1) ts)
@@ -46,7 +42,7 @@ others-end c ts i h = rw (drop-of-length-le ts h)
 -- ---- the first with a priority
 runs-far : (ts : List Thread) (p i : ℕ) → length ts ≤ i → runsAt ts p i ≡ false
 unfolding _and_
-runs-far ts p i h = rw (far ts i h)
+runs-far ts p i h = rw (threadAt-out ts i h)
 
 -- past the places there is none
 pub first-far : (ts : List Thread) (p n i : ℕ) → length ts ≤ i → firstFrom (runsAt ts p) n i ≡ NoThread

@@ -13,14 +13,13 @@ use Rattle.types.specs.declared.thread.ThreadOption.the-variants.{SomeThread}
 use Rattle.types.specs.declared.object.Slot.{Slot}
 use Rattle.types.specs.declared.kernel.Kernel.{Kernel}
 use Rattle.types.specs.Thread.{resultNumber, syscallNumber}
-use Rattle.sound.specs.View.{slotAt, objectAt, threadAt, noThread}
+use Rattle.sound.specs.View.{slotAt, objectAt, threadAt, noThread, threadAt-out}
 use Rattle.pass.specs.declared.Release.the-variants.{NotQuiet, Frees}
 use Rattle.pass.specs.Signal.{anyPulsed}
 use Rattle.pass.specs.Timers.{timerDue}
 use Rattle.pass.specs.Pick.{isRunning}
 use Rattle.pass.specs.Schedule.{starves}
 use Rattle.pass.specs.Asks.{openObject, calm, calmFrom, freesQuietly, releaseAs, quietRelease}
-use Rattle.pick.proofs.Steps.{far}
 use Rattle.quiet_release.specs.Alone.{alone}
 
 -- ---- the threads from number i on
@@ -64,7 +63,7 @@ module _ (k : Kernel) (c o tick : ℕ) where
 
   pub no-thread : length (k .threads) ≤ c → NotQuiet ≡ freesQuietly (SomeThread c) k o tick
   unfolding _and_
-  no-thread h = not-alone (rw (far (k .threads) c h))
+  no-thread h = not-alone (rw (threadAt-out (k .threads) c h))
 
   pub some-due : alone t tick ≡ true → still ≡ false → NotQuiet ≡ freesQuietly (SomeThread c) k o tick
   unfolding _and_

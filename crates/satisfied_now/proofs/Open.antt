@@ -17,7 +17,7 @@ use Rattle.types.specs.declared.kernel.Kernel.{Kernel}
 use Rattle.types.specs.declared.thread.ThreadOption.the-variants.{SomeThread}
 use Rattle.pass.specs.Timers.{timerDue}
 use Rattle.pass.specs.Asks.{unsatisfied, padded, openObject, satisfiedBy}
-use Rattle.wait.specs.Lists.{padded-more}
+use Rattle.pass.specs.Padded.{padded-more}
 use Rattle.satisfied_now.specs.Found.{satisfiedIn, satisfied-is}
 
 -- ---- the loop that opens the handles

@@ -15,7 +15,7 @@ use Rattle.pass.specs.declared.IndexOption.the-variants.{NoIndex, SomeIndex}
 use Rattle.pass.specs.declared.Satisfied.{Satisfied}
 use Rattle.pass.specs.Waits.{satisfiedAt}
 use Rattle.pass.specs.Asks.{unsatisfied, padded, foundAs, satisfiedFor}
-use Rattle.wait.specs.Lists.{padded-first}
+use Rattle.pass.specs.Padded.{padded-first}
 
 abbrev pub foundIn : IndexOption → List ObjectId → Satisfied
 foundIn NoIndex l = unsatisfied

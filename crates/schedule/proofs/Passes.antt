@@ -4,7 +4,7 @@ use mathlib.Core.Bool.{true}
 use mathlib.Core.List.{List}
 use Prim.Native.Nat.{ℕ}
 use lib.Dec.{eqb, ltb}
-use Rattle.laws.specs.Logic.{pick, _or_}
+use Rattle.laws.specs.Logic.{pick, _or_, or-end}
 use Rattle.codec.specs.Layout.{decAs}
 use Rattle.types.specs.declared.thread.ThreadOption.{ThreadOption}
 use Rattle.types.specs.declared.object.ObjectStore.{ObjectStore}
@@ -15,7 +15,6 @@ use Rattle.block.specs.Block.{headAt, encBlock, decBlock}
 use Rattle.block.specs.Parts.{withParts}
 use Rattle.block.proofs.Kept.{parts-block}
 use Rattle.sound.specs.Question.{sound?, t-block}
-use Rattle.object.proofs.Laws.{or-end}
 use Rattle.pass.specs.declared.Waits.{Waits}
 use Rattle.pass.specs.declared.Passed.{Passed}
 use Rattle.pass.specs.Schedule.{choose, tried, schedule}

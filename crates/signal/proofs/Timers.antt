@@ -8,7 +8,7 @@ use native.Mathlib.Omega.{arith}
 use lib.Dec.{ltb}
 use lib.ListN.{length, getD, set, take, drop, replicate, length-set, drop-of-length-le}
 use lib.Seq.{set-getD, take-all}
-use Rattle.laws.specs.Logic.{_and_, _or_, or-no, pick-yes}
+use Rattle.laws.specs.Logic.{_and_, _or_, or-no, pick-yes, or-end}
 use Rattle.laws.specs.All.{All}
 use Rattle.laws.specs.Tally.{tallyAll}
 use Rattle.types.specs.declared.object.KObject.{KObject}
@@ -22,7 +22,6 @@ use Rattle.types.specs.declared.object.Slot.{Slot}
 use Rattle.types.specs.declared.object.ObjectStore.{ObjectStore}
 use Rattle.sound.specs.View.{noSlot}
 use Rattle.object.specs.Slots.{withSlots}
-use Rattle.object.proofs.Laws.{or-end}
 use Rattle.kernel.specs.NextEvent.{dueOf}
 use Rattle.pass.specs.Signal.{withOverflow}
 use Rattle.pass.specs.Timers.{dueBy, firedAt, firedAs, firedSlot, overAt, overOf, anyOver, fireTimers, timerDue, lostSlot, lostSlots, catchUpTimers}

@@ -132,13 +132,13 @@ isProcess? (AddressArbiter a) = false
 isProcess? Process = true
 isProcess? ResourceLimit = false
 
-none-thread : (t : ℕ) → ofNone ≡ ofThread t → ⊥
+pub none-thread : (t : ℕ) → ofNone ≡ ofThread t → ⊥
 none-thread t e = let z : _≡_ {A = ℕ} 0 1 = cc in omega arith
 
 process-thread : (t : ℕ) → ofProcess ≡ ofThread t → ⊥
 process-thread t e = let z : _≡_ {A = ℕ} 0 1 = cc in omega arith
 
-none-process : ofNone ≡ ofProcess → ⊥
+pub none-process : ofNone ≡ ofProcess → ⊥
 none-process e = let z : _≡_ {A = ℕ} 0 1 = cc in omega arith
 
 thread-process : (t : ℕ) → ofThread t ≡ ofProcess → ⊥

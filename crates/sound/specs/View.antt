@@ -3,7 +3,7 @@ use mathlib.Core.Path.{_≡_, refl, ap, sym, _∙_}
 use mathlib.Core.Bool.{Bool, false}
 use mathlib.Core.Logic.{_≢_, inl, inr}
 use mathlib.Core.List.{List, [], map}
-use Prim.Native.Nat.{ℕ, zero, suc, _-_, _<_}
+use Prim.Native.Nat.{ℕ, zero, suc, _-_, _≤_, _<_}
 use native.Mathlib.Omega.{arith}
 use lib.ListN.{length, getD, List·getD-map, List·getD-eq-default}
 use Rattle.laws.specs.Count.{at}
@@ -103,6 +103,10 @@ pub slotAt-pos : (l : List Slot) (n : ℕ) → n ≢ 0 → slotAt l n ≡ getD l
 unfolding slotAt
 slotAt-pos l zero p = absurd (p refl)
 slotAt-pos l (suc n) p = let e : suc n - 1 ≡ n = omega arith in rw e
+
+-- a number past the places reads as no thread
+pub threadAt-out : (l : List Thread) (t : ℕ) → length l ≤ t → threadAt l t ≡ noThread
+threadAt-out l t h = List·getD-eq-default l noThread h
 
 pub slotAt-out : (l : List Slot) (i : ℕ) → (0 < i → length l < i) → slotAt l i ≡ noSlot
 unfolding slotAt

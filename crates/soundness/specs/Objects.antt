@@ -22,8 +22,9 @@ use Rattle.sound.specs.Objects.{keptNames, Held, Ref, refOf, keptAt, KeptOk}
 use Rattle.sound.specs.Records.{Chained, freeChain, Blanks}
 use Rattle.object.specs.Slots.{slotPut, withSlots, withObject, withRefcount, content}
 use Rattle.object.specs.Store.{isFree, insert, addRef, addRefs, release-if, release, releases}
-use Rattle.soundness.specs.Slots.{pick-both, kindAt, headAt, nextAt, refAt, map-slotPut, map-slotPut-same, length-slotPut, slot-f, slot-other, slot-same}
+use Rattle.soundness.specs.Slots.{pick-both, kindAt, headAt, nextAt, refAt, map-slotPut, map-slotPut-same, slot-f, slot-other, slot-same}
 use Rattle.soundness.specs.Chains.{Dropped, dropped, none-left, dropped-blanks}
+use Rattle.object.proofs.Laws.{length-slotPut}
 
 -- ---- what of an object the other parts of the block lean on
 pub record Shape : Type 0 where

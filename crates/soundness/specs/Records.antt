@@ -23,8 +23,8 @@ use Rattle.sound.specs.Records.{chainOf, has?, ChainOk, RecordsOk}
 use Rattle.object.specs.Slots.{withObject}
 use Rattle.object.specs.Waiters.{waiterAt, unlink, withHead, unlinked, retain, ofOthers, dropThread, firstOf, isArbiter, pushed, push}
 use Rattle.object.specs.Store.{release-if, release, releases}
-use Rattle.object.proofs.Laws.{at-waiters}
-use Rattle.soundness.specs.Slots.{kindAt, headAt, nextAt, refAt, map-slotPut-same, length-slotPut, slot-f}
+use Rattle.object.proofs.Laws.{at-waiters, length-slotPut}
+use Rattle.soundness.specs.Slots.{kindAt, headAt, nextAt, refAt, map-slotPut-same, slot-f}
 use Rattle.soundness.specs.Unlink.{keepIf, kept}
 use Rattle.soundness.specs.Chains.{Dropped, dropped, dropped-blanks}
 use Rattle.soundness.specs.Objects.{ObOk, Fine, ok-as, Pos, release-live, release-ok, release-dropped}

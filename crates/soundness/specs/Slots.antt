@@ -5,7 +5,7 @@ use mathlib.Core.Logic.{_≢_, _⊎_, inl, inr}
 use mathlib.Core.List.{List, [], _∷_, map}
 use Prim.Native.Nat.{ℕ, zero, suc, _≤_, _<_}
 use native.Mathlib.Omega.{arith}
-use lib.ListN.{length, set, length-set}
+use lib.ListN.{length, set}
 use lib.Seq.{getD-set-same, getD-set-other, set-out, map-set-same}
 use Rattle.laws.specs.Logic.{lt-cases, pick}
 use Rattle.laws.specs.Count.{ind-cases, put}
@@ -54,11 +54,6 @@ pub map-slotPut-same : (f : Slot → ℕ) (l : List Slot) (r : ℕ) (v : Slot) �
 unfolding slotPut slotAt
 map-slotPut-same f l zero v e = refl
 map-slotPut-same f l (suc i) v e = map-set-same f l i v noSlot e
-
-pub length-slotPut : (l : List Slot) (r : ℕ) (v : Slot) → length (slotPut l r v) ≡ length l
-unfolding slotPut
-length-slotPut l zero v = refl
-length-slotPut l (suc i) v = length-set l i v
 
 -- ---- one slot
 pub slot-cases : (l : List Slot) (r : ℕ) (v : Slot) (o : ℕ) → ((o ≡ r) × (slotAt (slotPut l r v) o ≡ v)) ⊎ (slotAt (slotPut l r v) o ≡ slotAt l o)

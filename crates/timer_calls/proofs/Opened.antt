@@ -19,11 +19,12 @@ use Rattle.pass.specs.Signal.{withOverflow}
 use Rattle.pass.specs.Timers.{timerDue, fireTimers, catchUpTimers}
 use Rattle.svc.specs.Call.{withObjects, resolved}
 use Rattle.svc.specs.Timers.{caughtUp}
+use Rattle.calling.specs.Resolves.{resolve-overflow}
 use Rattle.lent.specs.Operations.{finding, outOfHandles?}
 use Rattle.outcome.specs.Findings.{foundOf, none-found, parts-finding}
 use Rattle.objects.specs.declared.open.Opened.{Opened}
 use Rattle.objects.specs.Open.{Opens, makesCurrent, noRoom}
-use Rattle.objects.proofs.Room.{resolved-full, resolved-overflow}
+use Rattle.objects.proofs.Room.{resolved-full}
 use Rattle.objects.proofs.Sound.{opened-state}
 
 -- only slots change, and whether a count fits
@@ -59,7 +60,7 @@ module _ (b : List ℕ) (h tick : ℕ) where
   pub caught-finding : finding (withObjects caught (resolved caught h .store)) ≡ foundOf (noRoom k h) (caught .objects .overflow or outOfHandles? k)
   caught-finding =
       parts-finding b (k .threads) (resolved caught h .store)
-      ∙ (λ i. foundOf ((resolved-full caught h none-full ∙ same-room) i) (resolved-overflow caught h i or outOfHandles? k))
+      ∙ (λ i. foundOf ((resolved-full caught h none-full ∙ same-room) i) (resolve-overflow (caught .«current_thread») (caught .handles) (caught .objects) h i or outOfHandles? k))
 
   pub caught-fits : foundOf (noRoom k h) (caught .objects .overflow or outOfHandles? k) ≡ 0 → caught .objects .overflow ≡ false
   caught-fits z = or-false (caught .objects .overflow) (outOfHandles? k) (none-found (noRoom k h) (caught .objects .overflow or outOfHandles? k) z .1) .0

@@ -3,10 +3,10 @@ use mathlib.Core.Path.{_≡_, refl, ap, sym, _∙_}
 use mathlib.Core.Bool.{Bool, true, false}
 use mathlib.Core.Logic.{_≢_}
 use mathlib.Core.List.{List}
-use Prim.Native.Nat.{ℕ, zero, suc, _-_, _<_}
+use Prim.Native.Nat.{ℕ, _-_, _<_}
 use native.Mathlib.Omega.{arith}
 use lib.Dec.{leb, ltb}
-use lib.ListN.{length, getD, set, length-set}
+use lib.ListN.{length, getD, set}
 use lib.Seq.{set-getD}
 use borrow.Author.Tests.{eq-eqb, ne-eqb, le-ltb, lt-ltb, ltb-true, ltb-false, leb-true, leb-false}
 use Rattle.laws.specs.Logic.{pick, pick-yes, pick-no, _and_}
@@ -19,7 +19,7 @@ use Rattle.sound.specs.View.{noSlot, objectAt, slotAt, slotAt-pos, slotAt-out, 
 use Rattle.object.specs.Slots.{slotPut, withSlots, withRefcount}
 use Rattle.object.specs.Store.{isFree, release, release-if}
 use Rattle.object.specs.Waiters.{unlink}
-use Rattle.object.proofs.Laws.{slotPut-pos}
+use Rattle.object.proofs.Laws.{slotPut-pos, length-slotPut}
 use Rattle.tally.specs.Place.{isSlot, slot-some, slot-past, slotIndex, index-slot}
 use Rattle.pass.specs.Signal.{acquire, withOverflow}
 use Rattle.tries.specs.Change.{takenSlot, takenOver, unlinks, leftSlot, leftFree}
@@ -52,11 +52,6 @@ leftStore s k p = record {
 
 abbrev pub withFree : ObjectStore → List Slot → ℕ → ObjectStore
 withFree s l free = record { slots = l; free = free; waiters = s .waiters; «free_waiter» = s .«free_waiter»; «thread_objects» = s .«thread_objects»; «process_object» = s .«process_object»; full = s .full; overflow = s .overflow }
-
-put-length : (l : List Slot) (k : ℕ) (v : Slot) → length (slotPut l k v) ≡ length l
-unfolding slotPut
-put-length l zero v = refl
-put-length l (suc i) v = length-set l i v
 
 module _ (s : ObjectStore) (k : ℕ) where
   free-as : (z : Slot) → slotAt (s .slots) k ≡ z → (b : Bool) → isFree (z .object) ≡ b → isFree (objectAt s k) ≡ b
@@ -138,8 +133,8 @@ module _ (s : ObjectStore) (k : ℕ) where
   length-as : (a b : Bool) → length (pick a s (release-if b s k) .slots) ≡ length (s .slots)
   unfolding release-if
   length-as true b = refl
-  length-as false true = put-length (s .slots) k _
-  length-as false false = put-length (s .slots) k _
+  length-as false true = length-slotPut (s .slots) k _
+  length-as false false = length-slotPut (s .slots) k _
 
   pub release-length : length (release s k .slots) ≡ length (s .slots)
   unfolding release

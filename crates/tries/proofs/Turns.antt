@@ -8,7 +8,7 @@ use borrow.Author.Tests.{ltb-true, ltb-false, leb-true, le-ltb}
 use lib.Dec.{ltb, leb}
 use lib.Seq.{set-getD}
 use lib.ListN.{length, getD, set, take, drop, length-map, length-set}
-use Rattle.laws.specs.Logic.{pick, _and_, _or_, and-true, and-yes, and-no}
+use Rattle.laws.specs.Logic.{pick, _and_, _or_, and-true, and-yes, and-no, or-end}
 use Rattle.units.specs.declared.ObjectId.{ObjectId}
 use Rattle.types.specs.declared.thread.Thread.{Thread}
 use Rattle.types.specs.declared.object.Slot.{Slot}
@@ -17,7 +17,7 @@ use Rattle.types.specs.declared.kernel.Kernel.{Kernel}
 use Rattle.sound.specs.View.{ids, noSlot, noThread, slotAt, threadAt}
 use Rattle.object.specs.Slots.{withSlots, withObject}
 use Rattle.object.specs.Store.{release, releases}
-use Rattle.object.proofs.Laws.{list-at, list-end, kept-in, or-end}
+use Rattle.object.proofs.Laws.{list-at, list-end, kept-in}
 use Rattle.tally.specs.Place.{isSlot, slotIndex}
 use Rattle.pass.specs.declared.IndexOption.{IndexOption}
 use Rattle.pass.specs.declared.IndexOption.the-variants.{NoIndex, SomeIndex}

@@ -1,3 +1,2 @@
 -- Waits as they are looked at.
 pub mod Looks
-pub mod Lists

@@ -1,6 +1,6 @@
 use mathlib.Core.Path.{sym, _∙_}
-use Rattle.pick.proofs.Steps.{far}
 use native.Mathlib.Omega.{arith}
+use Rattle.sound.specs.View.{threadAt-out}
 use Rattle.laws.specs.Logic.{_and_}
 use borrow.Author.Tests.{not-true, not-false}
 use borrow.Author.Needs.{needs}
@@ -12,7 +12,7 @@ use Rattle.pick.proofs.is_running.Reads as is-running-reads
 
 returns : tie.Need-returns
 unfolding _and_
-returns c = rw (far (c .before .args .t1) (c .before .args .t) (omega (arith, c .before .good)))
+returns c = rw (threadAt-out (c .before .args .t1) (c .before .args .t) (omega (arith, c .before .good)))
 
 mul-v : tie.Need-mul-v
 mul-v c = search needs

@@ -1,5 +1,5 @@
 use native.Mathlib.Omega.{arith}
-use Rattle.blocking.proofs.Laws.{far}
+use Rattle.sound.specs.View.{threadAt-out}
 use borrow.Author.Needs.{needs}
 use Rattle.blocking.proofs.waits.is_gone.Statement.{statement}
 use Rattle.blocking.proofs.waits.is_gone.Tie as tie
@@ -7,7 +7,7 @@ use Rattle.blocking.proofs.waits.is_gone.Tie as tie
 returns : tie.Need-returns
 returns c =
     let a = c .before .args in
-    rw (far (a .t1) (a .u) (omega (arith, c .before .good)))
+    rw (threadAt-out (a .t1) (a .u) (omega (arith, c .before .good)))
 
 mul-t : tie.Need-mul-t
 mul-t c = search needs

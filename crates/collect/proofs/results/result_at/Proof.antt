@@ -1,11 +1,11 @@
 use mathlib.Core.Path.{ap}
 use native.Mathlib.Omega.{arith}
+use Rattle.sound.specs.View.{threadAt-out}
 use Rattle.codec.proofs.Fit.{length-decAll}
 use Rattle.types.specs.declared.thread.Thread.{Thread}
 use Rattle.block.specs.Block.{decBlock}
 use Rattle.block.specs.Thread.{decThread}
 use Rattle.block.specs.Tables.{threadsIn}
-use Rattle.pick.proofs.Steps.{far}
 use borrow.Author.Needs.{needs}
 use Rattle.collect.proofs.results.result_at.Statement.{statement}
 use Rattle.collect.proofs.results.result_at.Tie as tie
@@ -14,7 +14,7 @@ use Rattle.collect.proofs.results.result_at.Tie as tie
 returns : tie.Need-returns
 unfolding decBlock
 returns c = let a = c .before .before .args in
-    rw (far (threadsIn (a .block .now)) (a .c) (omega (arith, length-decAll decThread 160 32 (a .block .now) 128, c .if1 .taken)))
+    rw (threadAt-out (threadsIn (a .block .now)) (a .c) (omega (arith, length-decAll decThread 160 32 (a .block .now) 128, c .if1 .taken)))
 
 -- src/results.rt:26:9
 thread-at-requires : tie.Need-thread-at-requires

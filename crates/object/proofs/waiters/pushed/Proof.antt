@@ -1,8 +1,9 @@
 use borrow.Author.Tests.{eq-eqb, ne-eqb}
-use Rattle.object.proofs.Laws.{first-walk, or-true, or-end}
+use Rattle.object.proofs.Laws.{first-walk}
 use borrow.Author.Needs.{needs}
 use Rattle.object.proofs.waiters.pushed.Statement.{statement}
 use Rattle.object.proofs.waiters.pushed.Tie as tie
+use Rattle.laws.specs.Logic.{or-true, or-end}
 
 slot-at-requires : tie.Need-slot-at-requires
 slot-at-requires c κs = search needs

@@ -1,5 +1,5 @@
-use Rattle.pick.proofs.Steps.{far}
 use native.Mathlib.Omega.{arith}
+use Rattle.sound.specs.View.{threadAt-out}
 use borrow.Author.Needs.{needs}
 use Rattle.scheduler.proofs.choose.priority_at.Statement.{statement}
 use Rattle.scheduler.proofs.choose.priority_at.Tie as tie
@@ -7,7 +7,7 @@ use Rattle.scheduler.proofs.choose.priority_at.Reads as reads
 use Rattle.scheduler.proofs.choose.priority_at.Lts as lts
 
 returns : tie.Need-returns
-returns c = rw (far (c .before .args .t1) (c .before .args .t) (omega (arith, c .before .good)))
+returns c = rw (threadAt-out (c .before .args .t1) (c .before .args .t) (omega (arith, c .before .good)))
 
 mul-v : tie.Need-mul-v
 mul-v c = search needs

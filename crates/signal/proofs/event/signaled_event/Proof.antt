@@ -1,7 +1,6 @@
 use mathlib.Core.Path.{sym, _∙_}
 use borrow.Author.Tests.{not-true, not-false}
-use Rattle.laws.specs.Logic.{_and_}
-use Rattle.object.proofs.Laws.{or-true, or-end}
+use Rattle.laws.specs.Logic.{_and_, or-true, or-end}
 use borrow.Author.Needs.{needs}
 use Rattle.signal.proofs.event.signaled_event.Statement.{statement}
 use Rattle.signal.proofs.event.signaled_event.Tie as tie

@@ -1,8 +1,8 @@
 use mathlib.Core.Path.{sym, _∙_}
-use Rattle.object.proofs.Laws.{or-true, or-end}
 use borrow.Author.Needs.{needs}
 use Rattle.signal.proofs.timer.fired_due.Statement.{statement}
 use Rattle.signal.proofs.timer.fired_due.Tie as tie
+use Rattle.laws.specs.Logic.{or-true, or-end}
 
 fired-timer-requires : tie.Need-fired-timer-requires
 fired-timer-requires c κs = search needs

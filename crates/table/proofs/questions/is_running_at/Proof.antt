@@ -1,12 +1,12 @@
 use mathlib.Core.Path.{ap, _∙_}
 use native.Mathlib.Omega.{arith}
+use Rattle.sound.specs.View.{threadAt-out}
 use Rattle.codec.proofs.Fit.{length-decAll}
 use Rattle.types.specs.declared.thread.Thread.{Thread}
 use Rattle.block.specs.Block.{decBlock}
 use Rattle.block.specs.Thread.{decThread}
 use Rattle.block.specs.Tables.{threadsIn}
 use Rattle.pass.specs.Pick.{isRunning}
-use Rattle.pick.proofs.Steps.{far}
 use borrow.Author.Needs.{needs}
 use Rattle.table.proofs.questions.is_running_at.Statement.{statement}
 use Rattle.table.proofs.questions.is_running_at.Tie as tie
@@ -15,7 +15,7 @@ use Rattle.table.proofs.questions.is_running_at.Tie as tie
 returns : tie.Need-returns
 unfolding decBlock
 returns c = let a = c .before .before .args in
-    rw (far (threadsIn (a .block .now)) (a .c) (omega (arith, length-decAll decThread 160 32 (a .block .now) 128, c .if1 .taken)))
+    rw (threadAt-out (threadsIn (a .block .now)) (a .c) (omega (arith, length-decAll decThread 160 32 (a .block .now) 128, c .if1 .taken)))
 
 -- src/questions.rt:38:9
 thread-at-requires : tie.Need-thread-at-requires

@@ -3,14 +3,14 @@ use native.Mathlib.Omega.{arith}
 use Rattle.types.specs.declared.thread.Thread.{Thread}
 use Rattle.types.specs.Thread.{isDead}
 use Rattle.rows.specs.Sizes.{size-threads}
-use Rattle.blocking.proofs.Laws.{far}
+use Rattle.sound.specs.View.{threadAt-out}
 use Rattle.block.specs.Block.{decBlock}
 use borrow.Author.Needs.{needs}
 use Rattle.wait_calls.proofs.look.is_gone.Statement.{statement}
 use Rattle.wait_calls.proofs.look.is_gone.Tie as tie
 
 returns : tie.Need-returns
-returns c = rw (far (decBlock (c .before .before .args .block .now) .threads) (c .before .before .args .u) (omega (arith, size-threads (c .before .before .args .block .now), c .if1 .taken)))
+returns c = rw (threadAt-out (decBlock (c .before .before .args .block .now) .threads) (c .before .before .args .u) (omega (arith, size-threads (c .before .before .args .block .now), c .if1 .taken)))
 
 thread-at-requires : tie.Need-thread-at-requires
 thread-at-requires c κs = search needs
