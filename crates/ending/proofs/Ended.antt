@@ -1,56 +1,84 @@
 -- A block that holds a state, with a thread ended in it; what is found then. Assumes nothing.
-use mathlib.Core.Path.{_≡_, refl, sym, ap, _∙_}
+use mathlib.Core.Path.{_≡_, refl, sym, ap, subst, _∙_}
+use mathlib.Core.Logic.{_≢_}
 use mathlib.Core.Bool.{Bool, false}
-use mathlib.Core.List.{List}
-use Prim.Native.Nat.{ℕ}
-use lib.ListN.{length, take}
+use mathlib.Core.List.{List, map}
+use Prim.Native.Nat.{ℕ, _≤_}
+use lib.ListN.{take}
 use Rattle.laws.specs.Logic.{pick, _or_}
 use Rattle.types.specs.declared.thread.Thread.{Thread}
 use Rattle.types.specs.declared.thread.ThreadOption.{ThreadOption}
+use Rattle.types.specs.declared.object.KObject.{KObject}
+use Rattle.types.specs.declared.object.KObject.the-variants as kind
+use Rattle.types.specs.declared.object.Slot.{Slot}
 use Rattle.types.specs.declared.object.ObjectStore.{ObjectStore}
 use Rattle.types.specs.declared.kernel.Kernel.{Kernel}
+use Rattle.types.specs.Object.{kindNumber}
 use Rattle.types.specs.Thread.{threadFlag, threadValue}
 use Rattle.block.specs.declared.Head.{Head}
 use Rattle.block.specs.Thread.{four}
 use Rattle.block.specs.Block.{headWords, decBlock}
-use Rattle.sound.specs.View.{ids, noThread, threadAt}
+use Rattle.sound.specs.View.{ids, noSlot, noThread, threadAt}
+use Rattle.object.specs.Slots.{withObject}
 use Rattle.object.specs.Store.{releases}
 use Rattle.soundness.specs.Objects.{releases-full, releases-overflow}
 use Rattle.thread.specs.Thread.{clearWait}
-use Rattle.thread.specs.Threads.{ended, leftBy, disown, releaseWaits, endWait, endThread}
+use Rattle.thread.specs.Threads.{withThreads, disowned, disown, ended, leftBy, endWait, endThread}
 use Rattle.thread.proofs.Steps.{set-again}
 use Rattle.lent.specs.Operations.{finding, outOfHandles?}
 use Rattle.rows.specs.Rows.{threadPut, headPut}
 use Rattle.rows.specs.Holds.{Holds, put-thread, put-head}
+use Rattle.rows.specs.Mapped.{mapFrom, map-each}
+use Rattle.rows.specs.Slots.{slotted, SlotsTo, slots-all}
 use Rattle.outcome.specs.Findings.{foundOf}
-use Rattle.spawn.specs.declared.StoreWords.{StoreWords}
-use Rattle.spawn.specs.Tables.{tablesPut, wordsOf}
-use Rattle.spawn.proofs.Tables.{put-tables}
 
-abbrev headEnded : Head → ThreadOption → StoreWords → Head
-headEnded h current w = record { a = four (h .a .0) (h .a .1) (threadFlag current) (threadValue current); b = h .b; c = four (w .slot) (w .waiter) (h .c .2) (h .c .3); d = four (w .process) 0 0 0 }
+-- ---- mutexes given back; only a mutex changes
+pub disowned-other : (t : ℕ) (x : Slot) → kindNumber (x .object) ≢ 3 → withObject x (disowned t (x .object)) ≡ x
+disowned-other t x z = ap (withObject x) (go (x .object) z)
+  where
+    go : (o : KObject) → kindNumber o ≢ 3 → disowned t o ≡ o
+    go (kind.Free n) z = refl
+    go (kind.Thread u) z = refl
+    go (kind.Event e) z = refl
+    go (kind.Mutex m) z = absurd (z refl)
+    go (kind.Semaphore s) z = refl
+    go (kind.Timer u) z = refl
+    go (kind.AddressArbiter a) z = refl
+    go kind.Process z = refl
+    go kind.ResourceLimit z = refl
 
-module _ (b : List ℕ) (k : Kernel) (g : Holds b k) (t : ℕ) where
-  abbrev store : ObjectStore
-  store = disown (releaseWaits (k .objects) (k .threads) t) t
+-- slot by slot; s is the block before
+abbrev pub DisownedTo : ℕ → List ℕ → ℕ → List ℕ → Type 0
+DisownedTo t s = SlotsTo (λ _ x. withObject x (disowned t (x .object))) s
 
+pub disowned-all : (t : ℕ) (s : List ℕ) (b : List ℕ) (i : ℕ) → 128 ≤ i → DisownedTo t s i b → Holds b (withThreads (decBlock s) (decBlock s .threads) (disown (decBlock s .objects) t))
+unfolding disown
+disowned-all t s b i h g =
+    subst (λ (l : List Slot). Holds b (slotted (λ _ x. withObject x (disowned t (x .object))) s l)) (map-each noSlot (λ x. withObject x (disowned t (x .object))) 0 (decBlock s .objects .slots))
+    (slots-all (λ _ x. withObject x (disowned t (x .object))) s i b h g)
+
+-- ---- the whole: k is the state before, q that with the objects of the wait let go, e the block with the mutexes given back
+module _ (e : List ℕ) (k q : Kernel) (t : ℕ) where
   abbrev old : Thread
   old = threadAt (k .threads) t
 
-  unfolded : length (store .slots) ≡ 128 → length (store .waiters) ≡ 64 → length (store .«thread_objects») ≡ 32
-      → Holds (headPut (threadPut (tablesPut b store) t (ended (clearWait old))) (headEnded (headWords k) (leftBy (k .«current_thread») t) (wordsOf store))) (endThread k t)
-  unfolding endThread endWait
-  unfolded ns nw ni =
-      put-head (put-thread (put-tables g store ns nw ni) t (ended (clearWait old))) (endThread k t) (sym (set-again ended noThread (k .threads) t (clearWait old))) refl refl refl refl
+  abbrev headEnded : Head → ThreadOption → Head
+  headEnded h c = record { a = four (h .a .0) (h .a .1) (threadFlag c) (threadValue c); b = h .b; c = h .c; d = h .d }
 
-  -- with the head h of the state, the thread x, the store s
-  pub ended-in : (h : Head) → h ≡ headWords k → (x : Thread) → x ≡ old → (c : ThreadOption) → c ≡ k .«current_thread»
-      → (s : ObjectStore) → s ≡ disown (releases (k .objects) (take (x .«wait_count») (ids (x .«wait_objects»)))) t
-      → length (s .slots) ≡ 128 → length (s .waiters) ≡ 64 → length (s .«thread_objects») ≡ 32
-      → Holds (headPut (threadPut (tablesPut b s) t (ended (clearWait x))) (headEnded h (leftBy c t) (wordsOf s))) (endThread k t)
-  ended-in h e x f c d s q ns nw ni =
-      let m : s ≡ store = q ∙ ap (λ (y : Thread). disown (releases (k .objects) (take (y .«wait_count») (ids (y .«wait_objects»)))) t) f in
-      rw (e, d, f, m) (unfolded (ap (λ (y : ObjectStore). length (y .slots)) (sym m) ∙ ns) (ap (λ (y : ObjectStore). length (y .waiters)) (sym m) ∙ nw) (ap (λ (y : ObjectStore). length (y .«thread_objects»)) (sym m) ∙ ni))
+  abbrev let-go : Kernel
+  let-go = withThreads k (k .threads) (releases (k .objects) (take (old .«wait_count») (ids (old .«wait_objects»))))
+
+  unfolded : Holds e (withThreads let-go (let-go .threads) (disown (let-go .objects) t)) → Holds (headPut (threadPut e t (ended (clearWait old))) (headEnded (headWords let-go) (leftBy (k .«current_thread») t))) (endThread k t)
+  unfolding endThread endWait disown
+  unfolded g = put-head (put-thread g t (ended (clearWait old))) (endThread k t) (sym (set-again ended noThread (k .threads) t (clearWait old))) refl refl refl refl
+
+  -- with the head h, the thread x, the current thread c
+  pub ended-in : (x : Thread) → x ≡ old → (c : ThreadOption) → c ≡ k .«current_thread» → q ≡ withThreads k (k .threads) (releases (k .objects) (take (x .«wait_count») (ids (x .«wait_objects»))))
+      → (h : Head) → h ≡ headWords q → Holds e (withThreads q (q .threads) (disown (q .objects) t))
+      → Holds (headPut (threadPut e t (ended (clearWait x))) (headEnded h (leftBy c t))) (endThread k t)
+  ended-in x ex c ec eq h eh g =
+      let m : q ≡ let-go = eq ∙ ap (λ (y : Thread). withThreads k (k .threads) (releases (k .objects) (take (y .«wait_count») (ids (y .«wait_objects»))))) ex in
+      rw (eh, ec, ex, m) (unfolded (subst (λ (z : Kernel). Holds e (withThreads z (z .threads) (disown (z .objects) t))) m g))
 
 -- ---- what is found
 parts : (x y o : Bool) → x ≡ false → y ≡ false → _≡_ {A = ℕ} (pick (false or (x or false)) 7 (pick (false or (y or (false or o))) 8 0)) (foundOf false o)

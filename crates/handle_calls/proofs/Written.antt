@@ -1,34 +1,33 @@
 -- A block that holds a state, after a handle more and after a handle less. Assumes nothing.
-use mathlib.Core.Path.{_≡_, refl, sym, _∙_}
+use mathlib.Core.Path.{_≡_, refl, ap, _∙_}
+use mathlib.Core.Logic.{_≢_}
 use mathlib.Core.Bool.{Bool, true, false}
 use mathlib.Core.List.{List}
-use Prim.Native.Nat.{ℕ, _+_, _<_}
+use Prim.Native.Nat.{ℕ, _+_, _≤_, _<_}
 use lib.Dec.{leb, eqb}
-use lib.ListN.{length}
-use borrow.Author.Tests.{lt-ltb}
+use lib.ListN.{length, getD, List·getD-eq-default}
+use borrow.Author.Tests.{lt-ltb, eq-eqb, ne-eqb}
 use Rattle.laws.specs.Logic.{pick}
-use Rattle.codec.specs.Bytes.{over}
-use Rattle.codec.specs.Layout.{encAll}
 use Rattle.units.specs.declared.ObjectId.{ObjectId}
 use Rattle.types.specs.declared.object.Slot.{Slot}
 use Rattle.types.specs.declared.object.ObjectStore.{ObjectStore}
+use Rattle.types.specs.declared.object.HandleEntry.{HandleEntry}
 use Rattle.types.specs.declared.object.HandleTable.{HandleTable}
 use Rattle.types.specs.declared.kernel.Kernel.{Kernel}
 use Rattle.block.specs.declared.Head.{Head}
-use Rattle.block.specs.Table.{encEntry, encWaiter}
 use Rattle.block.specs.Thread.{four}
-use Rattle.block.specs.Slot.{encSlot}
 use Rattle.block.specs.Block.{headWords}
 use Rattle.sound.specs.View.{slotAt, objectAt}
 use Rattle.object.specs.Held.{held}
 use Rattle.object.specs.Slots.{withSlots}
 use Rattle.object.specs.Store.{addRef, isFree, release, release-if}
 use Rattle.object.specs.declared.handles.Both.{Both}
-use Rattle.object.specs.Handles.{give, close, objectOf, placeOf, takenOut}
+use Rattle.object.specs.Handles.{noEntry, give, close, objectOf, placeOf, takenOut}
+use Rattle.thread.specs.Threads.{withThreads}
 use Rattle.object.proofs.Laws.{add-ref-held}
 use Rattle.svc.specs.Call.{withHandles}
 use Rattle.rows.specs.Rows.{slotPut, entryPut, headPut}
-use Rattle.rows.specs.Holds.{Holds, put-slot, put-entry, put-slots, put-entries, put-waiters, put-head}
+use Rattle.rows.specs.Holds.{Holds, withTable, put-slot, put-entry, put-head}
 
 -- ---- a handle more
 module _ (b : List ℕ) (k : Kernel) (g : Holds b k) (o : ObjectId) where
@@ -89,10 +88,24 @@ close-table t s h = go (eqb (objectOf t h) 0)
     go true = record { full = refl; overflow = refl; next = refl }
     go false = record { full = refl; overflow = refl; next = refl }
 
-module _ (b : List ℕ) (k : Kernel) (g : Holds b k) (t : HandleTable) (s : ObjectStore) (p : Kept (k .objects) s) where
-  pub closed : (h : Head) → h ≡ headWords k → length (s .slots) ≡ 128 → length (t .entries) ≡ 256 → length (s .waiters) ≡ 64
-      → Holds (headPut (over (over (over b 5248 (encAll encSlot (s .slots))) 10368 (encAll encEntry (t .entries))) 12416 (encAll encWaiter (s .waiters))) (record { a = h .a; b = h .b; c = four (s .free) (s .«free_waiter») (t .count) (t .next .0); d = h .d })) (withHandles k t s)
-  closed h e l m n =
-      let d : record { a = h .a; b = h .b; c = four (s .free) (s .«free_waiter») (t .count) (t .next .0); d = h .d } ≡ headWords (withHandles k t s) =
-      (λ i. record { a = e i .a; b = e i .b; c = four (s .free) (s .«free_waiter») (t .count) (t .next .0); d = e i .d }) ∙ (λ i. record { a = headWords k .a; b = headWords k .b; c = four (s .free) (s .«free_waiter») (t .count) (t .next .0); d = four (sym (p .process) i .0) 0 0 0 }) in
-      rw d (put-head (put-waiters (put-entries (put-slots g (s .slots) l) (t .entries) m) (s .waiters) n) (withHandles k t s) refl refl refl refl (p .threads))
+-- an unknown handle
+pub closed-none : (k : Kernel) (h : ℕ) → objectOf (k .handles) h ≡ 0 → k ≡ withHandles k (close (k .handles) (k .objects) h .table) (close (k .handles) (k .objects) h .store)
+unfolding close
+closed-none k h e = rw (eq-eqb (objectOf (k .handles) h) 0 e)
+
+-- one at place i that names o; q is the state with the object let go
+pub closed-some : (k q : Kernel) (h i o : ℕ) → i ≡ placeOf (k .handles .entries) h → o ≡ objectOf (k .handles) h → o ≢ 0 → q ≡ withThreads k (k .threads) (release (k .objects) o)
+    → withTable q (takenOut (q .handles) i) ≡ withHandles k (close (k .handles) (k .objects) h .table) (close (k .handles) (k .objects) h .store)
+unfolding close
+closed-some k q h i o ei eo z e =
+    let n : eqb (objectOf (k .handles) h) 0 ≡ false = ne-eqb (objectOf (k .handles) h) 0 (λ w. z (eo ∙ w)) in
+    ap (λ (y : Kernel). withTable y (takenOut (y .handles) i)) e ∙ rw (n, ei, eo)
+
+-- the object of a handle that has no place, and of one at place i
+pub no-place : (t : HandleTable) (h i : ℕ) → i ≡ placeOf (t .entries) h → length (t .entries) ≤ i → objectOf t h ≡ 0
+unfolding objectOf
+no-place t h i e n = ap (λ (y : HandleEntry). y .object .0) (List·getD-eq-default (t .entries) noEntry (rw e at n))
+
+pub at-place : (t : HandleTable) (h i : ℕ) → i ≡ placeOf (t .entries) h → getD (t .entries) i noEntry .object .0 ≡ objectOf t h
+unfolding objectOf
+at-place t h i e = rw e

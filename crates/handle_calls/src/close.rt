@@ -1,87 +1,92 @@
 // `close_handle`: an unknown handle is done, a pseudo-handle too.
 use block::Head;
+use block::record;
 use codec::Four;
+use object::handles;
 use outcome::Outcome;
+use rows::read;
+use rows::write;
 use svc::Registers;
 use types::object::HandleEntry;
-use types::object::HandleTable;
-use types::object::Slot;
-use types::object::Waiter;
 use units::Handle;
+use units::ObjectId;
 ghost use mathlib.Core.Path.{_≡_};
 ghost use mathlib.Core.Bool.{true};
+ghost use Prim.Native.Nat.{_+_, _-_, _<_};
 ghost use lib.ListN.{length};
-ghost use Rattle.codec.specs.Bytes.{over};
-ghost use Rattle.codec.specs.Layout.{encAll};
-ghost use Rattle.block.specs.Table.{encEntry, encWaiter};
-ghost use Rattle.block.specs.Slot.{encSlot};
 ghost use Rattle.block.specs.Block.{decBlock};
 ghost use Rattle.sound.specs.Question.{sound?};
-ghost use Rattle.object.specs.Handles.{close};
+ghost use Rattle.object.specs.Handles.{without, takenOut, close};
+ghost use Rattle.release.specs.Encoded.{Encoded};
 ghost use Rattle.svc.specs.Call.{withHandles};
 ghost use Rattle.svc.specs.Handles as def;
-ghost use Rattle.rows.specs.Holds.{Holds};
+ghost use Rattle.rows.specs.Holds.{Holds, withTable, withEntries};
 ghost use Rattle.outcome.specs.Outcome.{outcome, left};
 
-fn get_table(block: &[u8]) -> HandleTable
+// The entry at place i is taken out, and those after it move up.
+fn remove_entry(block: &mut [u8], i: usize)
     requires { ⌜ length (now block) ≡ 16384 ⌝ }
-    ensures { λ t. ⌜ t ≡ decBlock (now (block .entry)) .handles ⌝ }
+    requires { ⌜ Encoded (now block) ⌝ }
+    requires { ⌜ i < 256 ⌝ }
+    ensures { λ _. ⌜ Holds (now (block .exit)) (withTable (decBlock (now (block .entry))) (withEntries (decBlock (now (block .entry)) .handles) (without (decBlock (now (block .entry)) .handles .entries) i))) ⌝ }
 {
-    let entries = block::table::get_entries(block, 10368);
-    HandleTable {
-        entries: entries,
-        count: codec::get32(block, 40),
-        next: Handle(codec::get32(block, 44)),
-        full: false,
-        overflow: false,
+    let mut j = i;
+    while j < 255 {
+        let e = record::entry_at(block, j + 1);
+        write::put_entry(block, j as u32, e);
+        j += 1;
     }
+    write::put_entry(
+        block,
+        255,
+        HandleEntry {
+            handle: Handle(0),
+            object: ObjectId(0),
+        },
+    );
 }
 
-fn put_tables(
-    block: &mut [u8],
-    slots: [Slot; 128],
-    entries: [HandleEntry; 256],
-    waiters: [Waiter; 64],
-)
+// One handle fewer.
+fn take_out(block: &mut [u8], i: usize)
     requires { ⌜ length (now block) ≡ 16384 ⌝ }
-    ensures { λ _. ⌜ now (block .exit) ≡ over (over (over (now (block .entry)) 5248 (encAll encSlot slots)) 10368 (encAll encEntry entries)) 12416 (encAll encWaiter waiters) ⌝ }
-    ensures { λ _. ⌜ length slots ≡ 128 ⌝ }
-    ensures { λ _. ⌜ length entries ≡ 256 ⌝ }
-    ensures { λ _. ⌜ length waiters ≡ 64 ⌝ }
-    ensures { λ _. ⌜ length (now (block .exit)) ≡ 16384 ⌝ }
+    requires { ⌜ Encoded (now block) ⌝ }
+    requires { ⌜ i < 256 ⌝ }
+    ensures { λ _. ⌜ Holds (now (block .exit)) (withTable (decBlock (now (block .entry))) (takenOut (decBlock (now (block .entry)) .handles) i)) ⌝ }
 {
-    block::slot::put_slots(block, 5248, slots);
-    block::table::put_entries(block, 10368, entries);
-    block::table::put_waiters(block, 12416, waiters);
+    let head = block::get_head(block);
+    let p = head.a;
+    let q = head.b;
+    let c = head.c;
+    let d = head.d;
+    remove_entry(block, i);
+    write::put_head(
+        block,
+        Head {
+            a: p,
+            b: q,
+            c: Four(c.0, c.1, handles::less(c.2), c.3),
+            d: d,
+        },
+    );
 }
 
-// The tables of handles, objects and records go by value; the threads stay where they are.
+// The object loses a holder and the handle its entry; an unknown handle has no object.
 fn put_closed(block: &mut [u8], h: u32)
     requires { ⌜ length (now block) ≡ 16384 ⌝ }
     requires { ⌜ sound? (now block) ≡ true ⌝ }
     ensures { λ _. ⌜ Holds (now (block .exit)) (withHandles (decBlock (now (block .entry))) (close (decBlock (now (block .entry)) .handles) (decBlock (now (block .entry)) .objects) h .table) (close (decBlock (now (block .entry)) .handles) (decBlock (now (block .entry)) .objects) h .store)) ⌝ }
 {
-    let head = block::get_head(block);
-    let p = head.a;
-    let q = head.b;
-    let d = head.d;
-    let x = object::handles::close(get_table(block), block::parts::get_store(block), Handle(h));
-    let t = x.table;
-    let s = x.store;
-    let entries = t.entries;
-    let next = t.next;
-    let slots = s.slots;
-    let waiters = s.waiters;
-    put_tables(block, slots, entries, waiters);
-    rows::write::put_head(
-        block,
-        Head {
-            a: p,
-            b: q,
-            c: Four(s.free, s.free_waiter, t.count, next.0),
-            d: d,
-        },
-    );
+    let i = read::place_of(block, h);
+    if 256 <= i {
+        return;
+    }
+    let e = record::entry_at(block, i);
+    let o = e.object;
+    if o.0 == 0 {
+        return;
+    }
+    release::release(block, o);
+    take_out(block, i);
 }
 
 // r0 handle.

@@ -36,7 +36,7 @@ pub fn more_below(x: u32, n: u32) -> u32
     x
 }
 
-fn less(x: u32) -> u32
+pub fn less(x: u32) -> u32
     ensures { λ r. ⌜ r ≡ x - 1 ⌝ }
 {
     if x == 0 {

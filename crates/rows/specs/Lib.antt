@@ -5,3 +5,5 @@ pub mod Sizes
 pub mod Current
 pub mod Holds
 pub mod Head
+pub mod Mapped
+pub mod Slots

@@ -1,7 +1,6 @@
 // The end of a thread, and with it of its wait (`end_thread`, `end_wait`). A number past the places names no thread.
 use crate::thread;
 use types::object::KObject;
-use types::object::ObjectStore;
 use types::object::Slot;
 use types::sync::Mutex;
 use types::thread::Thread;
@@ -10,7 +9,8 @@ use types::thread::ThreadStatus;
 use types::thread::WaitResult;
 use types::thread::WaitSyscall;
 ghost use mathlib.Core.Path.{_≡_};
-ghost use Prim.Native.Nat.{_+_, _-_, _<_};
+ghost use lib.Dec.{eqb};
+ghost use Rattle.types.specs.Object.{kindNumber};
 ghost use Rattle.object.specs.Slots.{withObject};
 ghost use Rattle.thread.specs.Thread.{clearWait};
 ghost use Rattle.thread.specs.Threads as def;
@@ -44,7 +44,7 @@ fn disowned(t: u32, o: KObject) -> KObject
     }
 }
 
-fn disowned_slot(t: u32, s: Slot) -> Slot
+pub fn disowned_slot(t: u32, s: Slot) -> Slot
     ensures { λ r. ⌜ r ≡ withObject s (def.disowned t (s .object)) ⌝ }
 {
     let o = s.object;
@@ -56,17 +56,13 @@ fn disowned_slot(t: u32, s: Slot) -> Slot
     }
 }
 
-// Every mutex that the thread owns is given back, all the way down.
-pub fn disown(s: ObjectStore, t: u32) -> ObjectStore
-    ensures { λ r. ⌜ r ≡ def.disown s t ⌝ }
+// Only a mutex has an owner.
+pub fn is_mutex(s: Slot) -> bool
+    ensures { λ r. ⌜ r ≡ eqb (kindNumber (s .object)) 3 ⌝ }
 {
-    let mut q = s;
-    let mut i: usize = 0;
-    while i < 128 {
-        q.slots[i] = disowned_slot(t, q.slots[i]);
-        i += 1;
-    }
-    q
+    let o = s.object;
+    let kind = types::object::kind_number(o);
+    kind == 3
 }
 
 pub fn left_by(w: ThreadOption, t: u32) -> ThreadOption

@@ -19,7 +19,7 @@ pub struct Operation {
     pub try_on: fn(&mut Rng, &Lent) -> Option<Op>,
 }
 
-/// build.rs looks in the library for the guest's operations.
+/// every export of the library.
 pub const OPERATIONS: &[Operation] = &[
     FRESH_START,
     NEXT_EVENT,
@@ -28,9 +28,7 @@ pub const OPERATIONS: &[Operation] = &[
     CREATE_THREAD,
     SCHEDULE,
     END_THREAD,
-    #[cfg(has_dispatch)]
     dispatch::DISPATCH,
-    #[cfg(has_collect)]
     COLLECT,
 ];
 
@@ -38,15 +36,14 @@ pub const OPERATIONS: &[Operation] = &[
 pub struct Chosen { names: Vec<&'static str>, calls: Vec<u32> }
 
 impl Chosen {
-    /// whatever the library has.
+    /// all of them.
     pub fn all() -> Chosen { Chosen { names: OPERATIONS.iter().map(|x| x.name).collect(), calls: vec![] } }
 
     /// names of operations and numbers of guest calls, which are hexadecimal, with a comma between them. `call` is every number.
     pub fn parse(list: &str) -> Result<Chosen, String> {
         let mut chosen = Chosen { names: vec![], calls: vec![] };
-        let has_calls = OPERATIONS.iter().any(|x| x.name == "call");
         for item in list.split(',') {
-            let number = u32::from_str_radix(item.trim_start_matches("0x"), 16).ok().filter(|n| has_calls && CALLS.contains(n));
+            let number = u32::from_str_radix(item.trim_start_matches("0x"), 16).ok().filter(|n| CALLS.contains(n));
             if let Some(x) = OPERATIONS.iter().find(|x| x.name == item) { chosen.names.push(x.name); }
             else { chosen.calls.push(number.ok_or(format!("the library has no {item}"))?); }
         }
@@ -100,7 +97,6 @@ extern "C" {
     ) -> u32;
     fn kernel_quiet_release(block: *const u8, block_len: usize, answer: *mut u8, answer_len: usize, handle: u32, tick: u64) -> u32;
     fn kernel_end_thread(block: *mut u8, block_len: usize, thread: u32) -> u32;
-    #[cfg(has_collect)]
     fn kernel_collect(block: *mut u8, block_len: usize, answer: *mut u8, answer_len: usize) -> u32;
 }
 
@@ -268,7 +264,6 @@ const END_THREAD: Operation = Operation {
     },
 };
 
-#[cfg(has_collect)]
 const COLLECT: Operation = Operation {
     name: "collect",
     answer_len: 12,
@@ -286,7 +281,6 @@ const COLLECT: Operation = Operation {
 };
 
 /// guest calls.
-#[cfg(has_dispatch)]
 mod dispatch {
     use super::{any_handle, any_tick, Operation};
     use crate::codec::get32;

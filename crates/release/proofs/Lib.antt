@@ -1,0 +1,2 @@
+-- The laws that the proofs of `release` cite.
+pub mod Released

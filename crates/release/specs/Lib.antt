@@ -1,0 +1,2 @@
+-- Blocks in mid-operation.
+pub mod Encoded
