@@ -7,8 +7,10 @@ use Rattle.types.specs.declared.object.ObjectStore.{ObjectStore}
 use Rattle.types.specs.declared.kernel.Kernel.{Kernel}
 use Rattle.block.specs.Block.{headAt, headWords, encBlock, decBlock}
 use Rattle.block.proofs.Fits.{StateFits, block-back}
-use Rattle.sound.specs.Question.{sound?, t-block}
+use Rattle.sound.specs.Sound.{Sound}
+use Rattle.sound.specs.Question.{sound?, t-block, encoded-sound}
 use Rattle.soundness.specs.Fits.{StoreFits}
+use Rattle.soundness.specs.Whole.{Parts, parts-sound}
 use Rattle.thread.specs.Threads.{withThreads}
 use Rattle.rows.specs.Holds.{Sizes, Holds, sizes-of}
 use Rattle.rows.specs.Head.{head-held}
@@ -34,6 +36,10 @@ module _ (b : List ℕ) (k : Kernel) (h : Holds b k) (f : StateFits k) where
 
   pub held-encoded : Encoded b
   held-encoded = record { fits = subst StateFits (sym held-state) f; same = h .same ∙ ap encBlock (sym held-state) }
+
+-- a block that holds a sound state
+pub held-sound : (b : List ℕ) (k : Kernel) → Holds b k → Parts k → (decBlock b ≡ k) × (sound? b ≡ true)
+held-sound b k h p = let s : Sound k = parts-sound k p in (ap decBlock (h .same) ∙ block-back k (s .fits), ap sound? (h .same) ∙ encoded-sound k s)
 
 -- ---- the objects of a state
 module _ (k : Kernel) (f : StateFits k) where

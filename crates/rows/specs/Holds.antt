@@ -199,6 +199,17 @@ module _ {b : List ℕ} {k : Kernel} (g : Holds b k) where
   }
 
   -- ---- a whole table
+  pub put-threads : (ts : List Thread) → length ts ≡ 32 → Holds (over b 128 (encAll encThread ts)) (withThreads k ts (k .objects))
+  unfolding encBlock
+  put-threads ts n =
+      let Q = X2 k ++ (X3 k ++ (X4 k ++ (X5 k ++ Z))) in
+      record {
+        same =
+            rw (g .same)
+            (over-at (H k) (X1 k) (encAll encThread ts) Q 128 5120 (length-encHead (headWords k)) (length-all encThread 160 length-encThread 32 (k .threads) (g .sizes .nt)) (length-all encThread 160 length-encThread 32 ts n));
+        sizes = record { nt = n; ns = g .sizes .ns; ne = g .sizes .ne; nw = g .sizes .nw; ni = g .sizes .ni };
+      }
+
   pub put-slots : (ss : List Slot) → length ss ≡ 128 → Holds (over b 5248 (encAll encSlot ss)) (withThreads k (k .threads) (withSlots (k .objects) ss))
   unfolding encBlock
   put-slots ss n =

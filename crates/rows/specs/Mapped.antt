@@ -55,7 +55,6 @@ module _ {A : Type 0} (none : A) (f : ℕ → A → A) (enc : A → List ℕ) (s
     (put-is : (b : List ℕ) (i : ℕ) (x : A) → i < count → put b i x ≡ over b (start + i * size) (enc x))
     (put-holds : (b : List ℕ) (l : List A) (i : ℕ) (x : A) → Holds b (state l) → Holds (put b i x) (state (set l i x)))
     (s : List ℕ) (before : List A) (many : length before ≡ count) where
-
   -- the first i records are done, the others as they were
   pub record MappedTo (i : ℕ) (b : List ℕ) : Type 0 where
     pub long : length b ≡ 16384

@@ -1,2 +1,2 @@
--- What a pass writes into the head and what it finds, as they are computed.
+-- What a pass writes into the head.
 pub mod Pass

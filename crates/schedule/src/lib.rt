@@ -1,21 +1,24 @@
 // The operation that makes a pass.
 use block::Head;
-use block::parts;
 use codec::Four;
 use lent::questions;
+use rows::write;
 use scheduler::choose;
-use types::object::ObjectStore;
 use types::thread::ThreadOption;
-use units::Handle;
 ghost use mathlib.Core.Path.{_≡_};
+ghost use mathlib.Core.Bool.{true, false};
 ghost use mathlib.Core.List.{[]};
 ghost use Prim.Native.Nat.{_+_, _*_, _<_};
 ghost use lib.ListN.{length};
 ghost use Rattle.laws.specs.Logic.{pick};
 ghost use Rattle.codec.specs.Bytes.{bytes};
+ghost use Rattle.block.specs.Block.{decBlock};
+ghost use Rattle.sound.specs.Question.{sound?};
+ghost use Rattle.pass.specs.Schedule as pass;
+ghost use Rattle.passing.specs.Awake.{during};
 ghost use Rattle.lent.specs.Lent.{lent, back};
 ghost use Rattle.lent.specs.Operations as def;
-ghost use Rattle.schedule.specs.Pass.{headAfter, foundIn};
+ghost use Rattle.schedule.specs.Pass.{headAfter};
 
 fn save_at(bank: &mut [u8], t: u32, context: &[u8])
     requires { ⌜ length (now bank) ≡ 6656 ⌝ }
@@ -92,15 +95,15 @@ fn put_passed(
     codec::put32(answer, 0, flag(switched));
 }
 
-// The head h after the pass, with what the objects o and the choice of who runs change of it.
-fn head_after(h: Head, o: ObjectStore, next: ThreadOption, relief: bool) -> Head
-    ensures { λ r. ⌜ r ≡ headAfter h o next relief ⌝ }
+// The head h after the pass, with the choice of who runs.
+fn head_after(h: Head, next: ThreadOption, relief: bool) -> Head
+    ensures { λ r. ⌜ r ≡ headAfter h next relief ⌝ }
 {
     let p = h.a;
     let q = h.b;
-    let r = h.c;
+    let c = h.c;
+    let d = h.d;
     let blocked = choose::is_none(next);
-    let process = o.process_object;
     Head {
         a: Four(
             p.0,
@@ -109,25 +112,28 @@ fn head_after(h: Head, o: ObjectStore, next: ThreadOption, relief: bool) -> Head
             types::thread::thread_value(next),
         ),
         b: Four(q.0, q.1, blocked as u32, relief as u32),
-        c: Four(o.free, o.free_waiter, r.2, r.3),
-        d: Four(process.0, 0, 0, 0),
+        c: c,
+        d: d,
     }
 }
 
-// Questions 7 and 8 after a pass: it changes no handle.
-fn found_in(o: ObjectStore, next: Handle) -> u32
-    ensures { λ r. ⌜ r ≡ foundIn o (next .0) ⌝ }
+// The pass up to its choice. True, with the block as it was, if a count does not fit: the tries are done in the block, and
+// only a later one may find that, so a copy is kept.
+fn try_waits(block: &mut [u8], tick: u64) -> bool
+    requires { ⌜ length (now block) ≡ 16384 ⌝ }
+    requires { ⌜ sound? (now block) ≡ true ⌝ }
+    ensures { λ r. ⌜ r ≡ pass.tried (decBlock (now (block .entry))) tick .objects .overflow ⌝ }
+    ensures { λ r. ⌜ ((r ≡ true) → now (block .exit) ≡ now (block .entry)) ⌝ }
+    ensures { λ r. ⌜ ((r ≡ false) → decBlock (now (block .exit)) ≡ during (decBlock (now (block .entry))) (pass.tried (decBlock (now (block .entry))) tick)) ⌝ }
+    ensures { λ r. ⌜ ((r ≡ false) → sound? (now (block .exit)) ≡ true) ⌝ }
 {
-    if o.full {
-        return 7;
+    let mut before = [0u8; 16384];
+    codec::copy(&mut before, 0, block);
+    if tries::try_waits(block, tick) {
+        codec::copy(block, 0, &before);
+        return true;
     }
-    if o.overflow {
-        return 8;
-    }
-    if questions::out_of_handles(next) {
-        return 8;
-    }
-    0
+    false
 }
 
 // Timers fire, waits that are over end, and the most urgent thread that can run gets the core.
@@ -155,23 +161,22 @@ pub fn operate(
     if !questions::block_ok(block) {
         return 2;
     }
+    if outcome::out_of_handles(block) {
+        return 8;
+    }
+    if try_waits(block, tick) {
+        return 8;
+    }
     let head = block::get_head(block);
     let p = head.a;
     let q = head.b;
-    let r = head.c;
     let current = types::thread::thread_option(p.2, p.3);
-    let w = tries::try_waits(block, tick);
-    let objects = w.objects;
-    let tried = w.threads;
+    let tried = block::thread::get_threads(block, 128);
     let t = choose::choose(tried, current, q.3 == 1, tick);
-    let found = found_in(objects, Handle(r.3));
-    if found != 0 {
-        return found;
-    }
     let next = t.current;
     let threads = t.threads;
-    let after = head_after(head, objects, next, t.relief);
-    parts::put_parts(block, after, threads, objects);
+    block::thread::put_threads(block, 128, threads);
+    write::put_head(block, head_after(head, next, t.relief));
     let saved = t.saved;
     let restored = t.restored;
     put_passed(bank, processor, answer, saved, restored, t.switched);

@@ -1,3 +1,3 @@
 -- The laws that the proofs of `tries` cite.
-pub mod Places
+pub mod Fired
 pub mod Turns

@@ -1,3 +1,2 @@
--- What a try changes.
-pub mod Change
+-- What a try does.
 pub mod Tries

@@ -3,12 +3,10 @@ use pass::Fate;
 use pass::IndexOption;
 use types::thread::Thread;
 use types::thread::ThreadStatus;
-use wait::satisfy;
 ghost use mathlib.Core.Path.{_≡_};
 ghost use Rattle.laws.specs.Logic.{pick};
 ghost use Rattle.pass.specs.Timers.{dueBy};
 ghost use Rattle.pass.specs.Waits as def;
-ghost use Rattle.wait.specs.Looks.{indexFor};
 ghost use Rattle.tries.specs.Tries.{givenAs, orFate};
 
 fn late_or(late: bool) -> Fate
@@ -73,12 +71,12 @@ fn fate_as(status: ThreadStatus, found: IndexOption, late: bool) -> Fate
     }
 }
 
-// Of the thread t, whose list has its first place with the signal that it looks for at `first`.
-pub fn fate_of(t: Thread, first: IndexOption, tick: u64) -> Fate
-    ensures { λ r. ⌜ r ≡ def.fateAs (t .status) (indexFor (t .«wait_all») first) (dueBy (t .«wakeup_at») tick) ⌝ }
+// Of the thread t, for which found is the index that its wait gives now.
+pub fn fate_of(t: Thread, found: IndexOption, tick: u64) -> Fate
+    ensures { λ r. ⌜ r ≡ def.fateAs (t .status) found (dueBy (t .«wakeup_at») tick) ⌝ }
 {
     let status = t.status;
     let at = t.wakeup_at;
     let late = signal::timer::due_by(at, tick);
-    fate_as(status, satisfy::index_for(t.wait_all, first), late)
+    fate_as(status, found, late)
 }

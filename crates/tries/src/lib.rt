@@ -1,28 +1,31 @@
-// What a pass does before it chooses (`fire_timers`, `try_satisfy_wait` for each thread by number, the end of pulses).
-mod change;
-pub mod fate;
+// What a pass does before it chooses (`fire_timers`, `try_satisfy_wait` for each thread by number, the end of pulses), in the
+// block where it lies.
+mod fate;
+mod slots;
 
-use block::parts;
-use object::store;
 use pass::Fate;
-use pass::IndexOption;
-use pass::Waits;
-use signal::pulse;
-use signal::timer;
+use release::release_list;
+use rows::read;
+use rows::write;
 use types::thread::Thread;
 use types::thread::ThreadStatus;
 use types::thread::WaitResult;
 use units::ObjectId;
-use wait::satisfy;
+use wait::look;
 ghost use mathlib.Core.Path.{_≡_};
-ghost use Prim.Native.Nat.{_+_, _-_, _<_, _≤_};
-ghost use lib.ListN.{length, take};
-ghost use Rattle.laws.specs.Logic.{pick};
-ghost use Rattle.sound.specs.View.{ids};
+ghost use mathlib.Core.Bool.{true, false};
+ghost use Prim.Native.Nat.{_+_, _<_};
+ghost use lib.ListN.{length, getD};
 ghost use Rattle.block.specs.Block.{decBlock};
+ghost use Rattle.sound.specs.View.{ids};
+ghost use Rattle.sound.specs.Objects.{Live};
+ghost use Rattle.sound.specs.Question.{sound?};
+ghost use Rattle.thread.specs.Threads.{withThreads};
+ghost use Rattle.pass.specs.Signal.{acquires};
+ghost use Rattle.pass.specs.Waits as def;
 ghost use Rattle.pass.specs.Schedule as pass;
-ghost use Rattle.wait.specs.Looks.{endFor};
-ghost use Rattle.tries.specs.Tries.{awakened, after, fromAny, toAny, takenFrom, takenTo, leftTo, isOver};
+ghost use Rattle.passing.specs.Awake.{during};
+ghost use Rattle.tries.specs.Tries.{awakened, after, isOver, took, waitsOf};
 
 // A Ready thread whose wait is over, with the result r.
 fn woken(t: Thread, r: WaitResult) -> Thread
@@ -53,109 +56,6 @@ fn tried(f: Fate, t: Thread) -> Thread
     }
 }
 
-// How many places of the list are waited on.
-fn places_in(l: [ObjectId; 8], n: u32) -> usize
-    ensures { λ r. ⌜ r ≤ 8 ⌝ }
-    ensures { λ r. ⌜ length l ≡ 8 ⌝ }
-    ensures { λ r. ⌜ take r (ids l) ≡ take n (ids l) ⌝ }
-{
-    if n < 8 {
-        return n as usize;
-    }
-    8
-}
-
-fn found_at(hit: bool, i: u32) -> IndexOption
-    ensures { λ r. ⌜ r ≡ pick hit (IndexOption.SomeIndex i) IndexOption.NoIndex ⌝ }
-{
-    if hit {
-        return IndexOption::SomeIndex(i);
-    }
-    IndexOption::NoIndex
-}
-
-// Once a place is found no other one is looked at.
-fn end_for(found: IndexOption, end: usize) -> usize
-    ensures { λ r. ⌜ r ≡ endFor found end ⌝ }
-{
-    match found {
-        IndexOption::NoIndex => end,
-        IndexOption::SomeIndex(_i) => 0,
-    }
-}
-
-fn from_any(i: u32) -> usize
-    ensures { λ r. ⌜ r ≡ fromAny i ⌝ }
-{
-    if i < 8 {
-        return i as usize;
-    }
-    0
-}
-
-fn from_given(i: u32, all: bool) -> usize
-    ensures { λ r. ⌜ r ≡ takenFrom (Fate.Given i) all ⌝ }
-{
-    if all {
-        return 0;
-    }
-    from_any(i)
-}
-
-// The first place that is taken: a wait for all takes every object, one for any the one at the index.
-fn taken_from(f: Fate, all: bool) -> usize
-    ensures { λ r. ⌜ r ≡ takenFrom f all ⌝ }
-{
-    match f {
-        Fate::Stays => 0,
-        Fate::Given(i) => from_given(i, all),
-        Fate::TimedOut => 0,
-        Fate::Slept => 0,
-    }
-}
-
-fn to_any(i: u32) -> usize
-    ensures { λ r. ⌜ r ≡ toAny i ⌝ }
-{
-    if i < 8 {
-        return (i + 1) as usize;
-    }
-    0
-}
-
-fn to_given(i: u32, all: bool, n: usize) -> usize
-    ensures { λ r. ⌜ r ≡ takenTo (Fate.Given i) all n ⌝ }
-{
-    if all {
-        return n;
-    }
-    to_any(i)
-}
-
-// The place before which the taking ends.
-fn taken_to(f: Fate, all: bool, n: usize) -> usize
-    ensures { λ r. ⌜ r ≡ takenTo f all n ⌝ }
-{
-    match f {
-        Fate::Stays => 0,
-        Fate::Given(i) => to_given(i, all, n),
-        Fate::TimedOut => 0,
-        Fate::Slept => 0,
-    }
-}
-
-// A wait that is over lets go of the whole list.
-fn left_to(f: Fate, n: usize) -> usize
-    ensures { λ r. ⌜ r ≡ leftTo f n ⌝ }
-{
-    match f {
-        Fate::Stays => 0,
-        Fate::Given(_i) => n,
-        Fate::TimedOut => n,
-        Fate::Slept => n,
-    }
-}
-
 fn is_over(f: Fate) -> bool
     ensures { λ r. ⌜ r ≡ isOver f ⌝ }
 {
@@ -167,86 +67,92 @@ fn is_over(f: Fate) -> bool
     }
 }
 
-// Timers that are due fire; every thread by number looks at its list, takes what it is given and lets go of the list;
-// pulses end. All in one place, since a store that is handed on is copied, and only what changes is written.
-pub fn try_waits(b: &[u8], tick: u64) -> Waits
-    requires { ⌜ length (now b) ≡ 16384 ⌝ }
-    ensures { λ r. ⌜ r ≡ pass.tried (decBlock (now (b .entry))) tick ⌝ }
+// The object at a place of a list, none past its end.
+fn object_at(l: [ObjectId; 8], i: u32) -> ObjectId
+    ensures { λ r. ⌜ r .0 ≡ getD (ids l) i 0 ⌝ }
 {
-    let mut s = parts::get_store(b);
-    let mut ts = block::thread::get_threads(b, 128);
-    let mut d: usize = 0;
-    while d < 128 {
-        let old = s.slots[d];
-        if timer::slot_due(old, tick) {
-            s.overflow = timer::over_after(s.overflow, old, tick);
-            s.slots[d] = timer::fired_slot(tick, old);
-        }
-        d += 1;
+    if 8 <= i {
+        return ObjectId(0);
     }
-    let mut i: usize = 0;
+    l[i as usize]
+}
+
+// A wait for all takes every object, one for any the one at the index. True if a count does not fit any more.
+fn take_given(block: &mut [u8], t: Thread, i: u32, w: u32) -> bool
+    requires { ⌜ length (now block) ≡ 16384 ⌝ }
+    requires { ⌜ sound? (now block) ≡ true ⌝ }
+    requires { ⌜ Live (decBlock (now block) .threads) w ⌝ }
+    ensures { λ r. ⌜ r ≡ acquires (decBlock (now (block .entry)) .objects) (def.taken t i) w .overflow ⌝ }
+    ensures { λ r. ⌜ ((r ≡ false) → decBlock (now (block .exit)) ≡ withThreads (decBlock (now (block .entry))) (decBlock (now (block .entry)) .threads) (acquires (decBlock (now (block .entry)) .objects) (def.taken t i) w)) ⌝ }
+    ensures { λ _. ⌜ sound? (now (block .exit)) ≡ true ⌝ }
+{
+    let list = t.wait_objects;
+    if t.wait_all {
+        return take::take_list(block, list, t.wait_count, w);
+    }
+    let o = object_at(list, i);
+    take::take(block, o, w)
+}
+
+fn take_for(block: &mut [u8], f: Fate, t: Thread, w: u32) -> bool
+    requires { ⌜ length (now block) ≡ 16384 ⌝ }
+    requires { ⌜ sound? (now block) ≡ true ⌝ }
+    requires { ⌜ Live (decBlock (now block) .threads) w ⌝ }
+    ensures { λ r. ⌜ r ≡ took f (decBlock (now (block .entry)) .objects) t w .overflow ⌝ }
+    ensures { λ r. ⌜ ((r ≡ false) → decBlock (now (block .exit)) ≡ withThreads (decBlock (now (block .entry))) (decBlock (now (block .entry)) .threads) (took f (decBlock (now (block .entry)) .objects) t w)) ⌝ }
+    ensures { λ _. ⌜ sound? (now (block .exit)) ≡ true ⌝ }
+{
+    match f {
+        Fate::Stays => false,
+        Fate::Given(i) => take_given(block, t, i, w),
+        Fate::TimedOut => false,
+        Fate::Slept => false,
+    }
+}
+
+// The turn of thread i. True if a count does not fit any more; part of the turn is done then.
+fn try_wait(block: &mut [u8], i: u32, tick: u64) -> bool
+    requires { ⌜ length (now block) ≡ 16384 ⌝ }
+    requires { ⌜ sound? (now block) ≡ true ⌝ }
+    requires { ⌜ i < 32 ⌝ }
+    ensures { λ r. ⌜ r ≡ def.tryWait tick (waitsOf (decBlock (now (block .entry)))) i .objects .overflow ⌝ }
+    ensures { λ r. ⌜ ((r ≡ false) → decBlock (now (block .exit)) ≡ during (decBlock (now (block .entry))) (def.tryWait tick (waitsOf (decBlock (now (block .entry)))) i)) ⌝ }
+    ensures { λ r. ⌜ ((r ≡ false) → sound? (now (block .exit)) ≡ true) ⌝ }
+{
+    let t = read::thread_at(block, i);
+    let list = t.wait_objects;
+    let found = look::satisfied_at(block, i, t.wait_all, list, t.wait_count);
+    let f = fate::fate_of(t, found, tick);
+    if !is_over(f) {
+        return false;
+    }
+    if take_for(block, f, t, i) {
+        return true;
+    }
+    release_list(block, list, t.wait_count);
+    write::put_thread(block, i, tried(f, t));
+    false
+}
+
+// True if a count does not fit any more, with part of it done: the caller has a copy of the block.
+pub fn try_waits(block: &mut [u8], tick: u64) -> bool
+    requires { ⌜ length (now block) ≡ 16384 ⌝ }
+    requires { ⌜ sound? (now block) ≡ true ⌝ }
+    ensures { λ r. ⌜ r ≡ pass.tried (decBlock (now (block .entry))) tick .objects .overflow ⌝ }
+    ensures { λ r. ⌜ ((r ≡ false) → decBlock (now (block .exit)) ≡ during (decBlock (now (block .entry))) (pass.tried (decBlock (now (block .entry))) tick)) ⌝ }
+    ensures { λ r. ⌜ ((r ≡ false) → sound? (now (block .exit)) ≡ true) ⌝ }
+{
+    if due::over(block, tick) {
+        return true;
+    }
+    slots::fire(block, tick);
+    let mut i: u32 = 0;
     while i < 32 {
-        let t = ts[i];
-        let list = t.wait_objects;
-        let n = places_in(list, t.wait_count);
-        let want = !t.wait_all;
-        let mut found = IndexOption::NoIndex;
-        let mut end = n;
-        let mut j: usize = 0;
-        while j < end {
-            let o = list[j];
-            let x = s.slots[tally::place::slot_index(o.0)];
-            let y = ts[satisfy::named_index(o.0, x)];
-            let hit = satisfy::look(want, o.0, x, y, i as u32);
-            found = found_at(hit, j as u32);
-            end = end_for(found, end);
-            j += 1;
-        }
-        let f = fate::fate_of(t, found, tick);
-        let to = taken_to(f, t.wait_all, n);
-        let mut a = taken_from(f, t.wait_all);
-        while a < to {
-            let o = list[a];
-            let p = tally::place::slot_index(o.0);
-            let x = s.slots[p];
-            if change::takes(o.0, x) {
-                s.overflow = change::taken_over(s.overflow, o.0, x);
-                s.slots[p] = change::taken(o.0, x, i as u32);
-            }
-            a += 1;
-        }
-        let left = left_to(f, n);
-        let mut g: usize = 0;
-        while g < left {
-            let o = list[g];
-            let p = tally::place::slot_index(o.0);
-            let x = s.slots[p];
-            if change::counts_down(o.0, x) {
-                s.slots[p] = change::let_go(o.0, x, s.free);
-            } else if change::unlinks(o.0, x) {
-                s = store::release(s, o);
-            } else {
-                s.slots[p] = change::let_go(o.0, x, s.free);
-                s.free = change::free_after(o.0, x, s.free);
-            }
-            g += 1;
-        }
-        if is_over(f) {
-            let v = ts[i];
-            ts[i] = tried(f, v);
+        if try_wait(block, i, tick) {
+            return true;
         }
         i += 1;
     }
-    let mut e: usize = 0;
-    while e < 128 {
-        let old = s.slots[e];
-        if old.pulsed {
-            s.slots[e] = pulse::unpulsed_slot(old);
-        }
-        e += 1;
-    }
-    Waits {
-        objects: s,
-        threads: ts,
-    }
+    slots::clear_pulses(block);
+    false
 }

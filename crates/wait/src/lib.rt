@@ -1,2 +1,3 @@
 // Waits: what satisfies one.
+pub mod look;
 pub mod satisfy;

@@ -1,7 +1,6 @@
 // The calls that wait on objects, in the block where it lies.
 pub mod before;
 pub mod begin_wait;
-pub mod look;
 pub mod many;
 pub mod one;
 pub mod take;

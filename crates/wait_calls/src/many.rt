@@ -1,7 +1,6 @@
 // `wait_synchronization_n` (svc.rs).
 use crate::before;
 use crate::begin_wait;
-use crate::look;
 use crate::take;
 use blocking::wait_n;
 use outcome::Outcome;
@@ -12,6 +11,7 @@ use thread::places;
 use types::thread::ThreadOption;
 use types::thread::WaitSyscall;
 use units::ObjectId;
+use wait::look;
 ghost use mathlib.Core.Path.{_≡_};
 ghost use mathlib.Core.Bool.{true, false};
 ghost use lib.ListN.{length, take, getD};

@@ -1,6 +1,5 @@
 // `wait_synchronization1` (svc.rs).
 use crate::begin_wait;
-use crate::look;
 use crate::take;
 use blocking::waits;
 use outcome::Outcome;
@@ -10,6 +9,7 @@ use timer_calls::caught;
 use types::thread::ThreadOption;
 use types::thread::WaitSyscall;
 use units::ObjectId;
+use wait::look;
 ghost use mathlib.Core.Path.{_≡_};
 ghost use mathlib.Core.Bool.{true, false};
 ghost use lib.ListN.{length};

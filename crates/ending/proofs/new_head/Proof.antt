@@ -1,4 +1,3 @@
-
 use borrow.Author.Needs.{needs}
 use Rattle.ending.proofs.new_head.Statement.{statement}
 use Rattle.ending.proofs.new_head.Tie as tie

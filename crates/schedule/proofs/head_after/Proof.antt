@@ -11,14 +11,14 @@ thread-flag-requires c κs = search needs
 thread-value-requires : tie.Need-thread-value-requires
 thread-value-requires c κs = search needs
 
+cast-t12 : tie.Need-cast-t12
+cast-t12 c = search needs
+
 cast-t13 : tie.Need-cast-t13
 cast-t13 c = search needs
 
-cast-t14 : tie.Need-cast-t14
-cast-t14 c = search needs
-
 returns : tie.Need-returns
-returns c = rw (c .thread-value .ensures, c .before .thread-flag .ensures, c .before .before .before .is-none .ensures)
+returns c = rw (c .before .before .is-none .ensures, c .thread-value .ensures, c .before .thread-flag .ensures)
 
 pub head-after-spec : {M : Type 1} → statement M
 head-after-spec =
@@ -27,6 +27,6 @@ head-after-spec =
     is-none-requires
     thread-flag-requires
     thread-value-requires
+    cast-t12
     cast-t13
-    cast-t14
     returns)

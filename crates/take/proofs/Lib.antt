@@ -1,0 +1,2 @@
+-- The laws that the proofs of `take` cite.
+pub mod Taken
