@@ -2,7 +2,7 @@
 use mathlib.Core.Path.{_≡_, refl, sym, ap, subst, _∙_}
 use mathlib.Core.Logic.{_≢_}
 use mathlib.Core.Bool.{Bool, false}
-use mathlib.Core.List.{List, map}
+use mathlib.Core.List.{List}
 use Prim.Native.Nat.{ℕ, _≤_}
 use lib.ListN.{take}
 use Rattle.laws.specs.Logic.{pick, _or_}
@@ -18,7 +18,7 @@ use Rattle.types.specs.Thread.{threadFlag, threadValue}
 use Rattle.block.specs.declared.Head.{Head}
 use Rattle.block.specs.Thread.{four}
 use Rattle.block.specs.Block.{headWords, decBlock}
-use Rattle.sound.specs.View.{ids, noSlot, noThread, threadAt}
+use Rattle.sound.specs.View.{ids, noThread, threadAt}
 use Rattle.object.specs.Slots.{withObject}
 use Rattle.object.specs.Store.{releases}
 use Rattle.soundness.specs.Objects.{releases-full, releases-overflow}
@@ -28,8 +28,7 @@ use Rattle.thread.proofs.Steps.{set-again}
 use Rattle.lent.specs.Operations.{finding, outOfHandles?}
 use Rattle.rows.specs.Rows.{threadPut, headPut}
 use Rattle.rows.specs.Holds.{Holds, put-thread, put-head}
-use Rattle.rows.specs.Mapped.{mapFrom, map-each}
-use Rattle.rows.specs.Slots.{slotted, SlotsTo, slots-all}
+use Rattle.rows.specs.Slots.{SlotsTo, slots-each}
 use Rattle.outcome.specs.Findings.{foundOf}
 
 -- ---- mutexes given back; only a mutex changes
@@ -49,13 +48,11 @@ disowned-other t x z = ap (withObject x) (go (x .object) z)
 
 -- slot by slot; s is the block before
 abbrev pub DisownedTo : ℕ → List ℕ → ℕ → List ℕ → Type 0
-DisownedTo t s = SlotsTo (λ _ x. withObject x (disowned t (x .object))) s
+DisownedTo t s = SlotsTo s (λ _ x. withObject x (disowned t (x .object)))
 
 pub disowned-all : (t : ℕ) (s : List ℕ) (b : List ℕ) (i : ℕ) → 128 ≤ i → DisownedTo t s i b → Holds b (withThreads (decBlock s) (decBlock s .threads) (disown (decBlock s .objects) t))
 unfolding disown
-disowned-all t s b i h g =
-    subst (λ (l : List Slot). Holds b (slotted (λ _ x. withObject x (disowned t (x .object))) s l)) (map-each noSlot (λ x. withObject x (disowned t (x .object))) 0 (decBlock s .objects .slots))
-    (slots-all (λ _ x. withObject x (disowned t (x .object))) s i b h g)
+disowned-all t s b i h g = slots-each s (λ x. withObject x (disowned t (x .object))) i b h g
 
 -- ---- the whole: k is the state before, q that with the objects of the wait let go, e the block with the mutexes given back
 module _ (e : List ℕ) (k q : Kernel) (t : ℕ) where

@@ -145,7 +145,7 @@ pub fn link_cells(
 
 // The chain from at without the records of thread t, or without all of them; what goes is free again. The records are
 // lent as columns, so that no step of the walk copies the table.
-fn unlink(
+pub fn unlink(
     threads: &mut [u32; 64],
     addresses: &mut [u32; 64],
     nexts: &mut [u32; 64],

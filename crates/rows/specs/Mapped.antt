@@ -50,57 +50,63 @@ map-each none g n [] = refl
 map-each none g n (x ∷ xs) = ap (λ y. g x ∷ y) (map-each none g (suc n) xs)
 
 -- ---- a table of `count` records of `size` bytes from `start` on; s is the block before the first is written
-module _ {A : Type 0} (none : A) (f : ℕ → A → A) (enc : A → List ℕ) (start size count : ℕ) (sized : (x : A) → length (enc x) ≡ size)
-    (room : (i : ℕ) → i < count → start + i * size + size ≤ 16384) (state : List A → Kernel) (put : List ℕ → ℕ → A → List ℕ)
-    (put-is : (b : List ℕ) (i : ℕ) (x : A) → i < count → put b i x ≡ over b (start + i * size) (enc x))
-    (put-holds : (b : List ℕ) (l : List A) (i : ℕ) (x : A) → Holds b (state l) → Holds (put b i x) (state (set l i x)))
-    (s : List ℕ) (before : List A) (many : length before ≡ count) where
-  -- the first i records are done, the others as they were
-  pub record MappedTo (i : ℕ) (b : List ℕ) : Type 0 where
+module _ {A : Type 0} (enc : A → List ℕ) (start size count : ℕ) (sized : (x : A) → length (enc x) ≡ size) (room : (i : ℕ) → i < count → start + i * size + size ≤ 16384)
+    (put : List ℕ → ℕ → A → List ℕ) (put-is : (b : List ℕ) (i : ℕ) (x : A) → i < count → put b i x ≡ over b (start + i * size) (enc x)) (s : List ℕ) where
+
+  -- the records from i on are as they were
+  pub record Untouched (i : ℕ) (b : List ℕ) : Type 0 where
     pub long : length b ≡ 16384
-    pub holds : Holds b (state (mapTo none f i 0 before))
     pub rest : drop (start + i * size) b ≡ drop (start + i * size) s
 
-  pub mapped-none : length s ≡ 16384 → Holds s (state before) → MappedTo 0 s
-  unfolding mapTo
-  mapped-none n h = record { long = n; holds = h; rest = refl }
-
-  module _ (i : ℕ) (b : List ℕ) (h : i < count) (g : MappedTo i b) where
-    -- record i is read as it was
-    pub read-as : {B : Type 0} (d : List ℕ → B) → d (drop (start + i * size) b) ≡ d (drop (start + i * size) s)
-    read-as d = ap d (g .rest)
-
+  module _ (i : ℕ) (b : List ℕ) (h : i < count) (g : Untouched i b) where
     next-row : start + (i + 1) * size ≡ start + i * size + size
     next-row = let e : (i + 1) * size ≡ i * size + size = rw (add-one i, suc-mul i size) (omega arith) in omega (arith, e)
 
     past : (x : List ℕ) → drop (start + (i + 1) * size) x ≡ drop size (drop (start + i * size) x)
     past x = rw (next-row, drop-drop)
 
-    rest-next : drop (start + (i + 1) * size) b ≡ drop (start + (i + 1) * size) s
-    rest-next = past b ∙ ap (drop size) (g .rest) ∙ sym (past s)
+    pub untouched-next : Untouched (i + 1) b
+    untouched-next = record { long = g .long; rest = past b ∙ ap (drop size) (g .rest) ∙ sym (past s) }
 
-    index-is : i + 0 ≡ i
-    index-is = omega arith
-
-    pub mapped-next : f i (getD before i none) ≡ getD before i none → MappedTo (i + 1) b
-    mapped-next e =
-        let z = index-is in
-        let r : mapTo none f i 0 before ≡ mapTo none f (i + 1) 0 before = rw (add-one i) (map-skip none f i 0 before (omega (arith, many)) (rw z e)) in
-        record { long = g .long; holds = subst (λ l. Holds b (state l)) r (g .holds); rest = rest-next }
-
-    pub mapped-more : (x : A) → x ≡ f i (getD before i none) → MappedTo (i + 1) (put b i x)
-    mapped-more x e =
-        let z = index-is in
+    pub untouched-put : (x : A) → Untouched (i + 1) (put b i x)
+    untouched-put x =
         let l = sized x in
-        let w : set (mapTo none f i 0 before) i x ≡ mapTo none f (i + 1) 0 before = rw (add-one i, e) (rw z at (map-set none f i 0 before (omega (arith, many)))) in
         let p = put-is b i x h in
         let q : start + i * size + length (enc x) + 0 ≡ start + (i + 1) * size = omega (arith, l, next-row) in
         let n : start + i * size + length (enc x) ≤ length b = omega (arith, l, g .long, room i h) in
         record {
           long = ap length p ∙ length-over b (start + i * size) (enc x) n ∙ g .long;
-          holds = subst (λ y. Holds (put b i x) (state y)) w (put-holds b (mapTo none f i 0 before) i x (g .holds));
-          rest = ap (drop (start + (i + 1) * size)) p ∙ subst (λ n. drop n (over b (start + i * size) (enc x)) ≡ drop n b) q (drop-over b (start + i * size) (enc x) 0 (omega (arith, n, g .long))) ∙ rest-next;
+          rest = ap (drop (start + (i + 1) * size)) p ∙ subst (λ n. drop n (over b (start + i * size) (enc x)) ≡ drop n b) q (drop-over b (start + i * size) (enc x) 0 (omega (arith, n, g .long))) ∙ untouched-next .rest;
         }
 
-  pub mapped-all : (i : ℕ) (b : List ℕ) → count ≤ i → MappedTo i b → Holds b (state (mapFrom none f 0 before))
-  mapped-all i b h g = subst (λ l. Holds b (state l)) (map-full none f i 0 before (omega (arith, many))) (g .holds)
+  -- each record changed by f
+  module _ (none : A) (f : ℕ → A → A) (state : List A → Kernel) (put-holds : (b : List ℕ) (l : List A) (i : ℕ) (x : A) → Holds b (state l) → Holds (put b i x) (state (set l i x)))
+      (before : List A) (many : length before ≡ count) where
+
+    -- the first i records are done, the others as they were
+    pub record MappedTo (i : ℕ) (b : List ℕ) : Type 0 where
+      pub rows : Untouched i b
+      pub holds : Holds b (state (mapTo none f i 0 before))
+
+    pub mapped-none : length s ≡ 16384 → Holds s (state before) → MappedTo 0 s
+    unfolding mapTo
+    mapped-none n h = record { rows = record { long = n; rest = refl }; holds = h }
+
+    module _ (i : ℕ) (b : List ℕ) (h : i < count) (g : MappedTo i b) where
+      index-is : i + 0 ≡ i
+      index-is = omega arith
+
+      pub mapped-next : f i (getD before i none) ≡ getD before i none → MappedTo (i + 1) b
+      mapped-next e =
+          let z = index-is in
+          let r : mapTo none f i 0 before ≡ mapTo none f (i + 1) 0 before = rw (add-one i) (map-skip none f i 0 before (omega (arith, many)) (rw z e)) in
+          record { rows = untouched-next i b h (g .rows); holds = subst (λ l. Holds b (state l)) r (g .holds) }
+
+      pub mapped-more : (x : A) → x ≡ f i (getD before i none) → MappedTo (i + 1) (put b i x)
+      mapped-more x e =
+          let z = index-is in
+          let w : set (mapTo none f i 0 before) i x ≡ mapTo none f (i + 1) 0 before = rw (add-one i, e) (rw z at (map-set none f i 0 before (omega (arith, many)))) in
+          record { rows = untouched-put i b h (g .rows) x; holds = subst (λ y. Holds (put b i x) (state y)) w (put-holds b (mapTo none f i 0 before) i x (g .holds)) }
+
+    pub mapped-all : (i : ℕ) (b : List ℕ) → count ≤ i → MappedTo i b → Holds b (state (mapFrom none f 0 before))
+    mapped-all i b h g = subst (λ l. Holds b (state l)) (map-full none f i 0 before (omega (arith, many))) (g .holds)

@@ -1,3 +1,3 @@
 -- The laws that the proofs of `spawn` cite.
-pub mod Tables
+pub mod Forgets
 pub mod Made

@@ -1,15 +1,17 @@
 -- A block that holds a state, with a new thread written into it; what is found of a new thread. Assumes nothing.
-use mathlib.Core.Path.{_≡_, refl, sym, subst, _∙_}
+use mathlib.Core.Path.{_≡_, refl, ap, subst, _∙_}
 use mathlib.Core.Bool.{Bool, true, false}
 use mathlib.Core.List.{List}
 use Prim.Native.Nat.{ℕ}
 use lib.Dec.{eqb, leb, ltb}
 use Rattle.laws.specs.Logic.{pick, _or_}
+use Rattle.codec.specs.Bytes.{le}
+use Rattle.codec.specs.Layout.{decAs}
 use Rattle.types.specs.declared.thread.Thread.{Thread}
 use Rattle.types.specs.declared.object.ObjectStore.{ObjectStore}
 use Rattle.types.specs.declared.kernel.Kernel.{Kernel}
 use Rattle.block.specs.declared.Head.{Head}
-use Rattle.block.specs.Block.{headWords, decBlock}
+use Rattle.block.specs.Block.{headAt, headWords, decBlock}
 use Rattle.sound.specs.Objects.{keptAt}
 use Rattle.object.specs.Store.{release}
 use Rattle.soundness.specs.Objects.{release-full, release-overflow}
@@ -22,10 +24,15 @@ use Rattle.lent.specs.Operations.{finding, outOfHandles?}
 use Rattle.outcome.specs.Findings.{foundOf}
 use Rattle.rows.specs.Rows.{threadPut, headPut}
 use Rattle.rows.specs.Holds.{Holds, put-thread, put-head}
-use Rattle.spawn.specs.declared.StoreWords.{StoreWords}
-use Rattle.spawn.specs.Tables.{tabled, wordsOf, headMade}
+use Rattle.release.specs.Encoded.{Encoded, encoded-holds, encoded-head}
+use Rattle.spawn.specs.Made.{headMade}
 
--- ---- the record and the head
+-- how many threads there are, as it is read
+pub count-is : (b : List ℕ) → le 4 b 4 ≡ decBlock b .«thread_count»
+unfolding decBlock decAs
+count-is b = refl
+
+-- ---- the record and the head; e is the block with the thread before forgotten
 module _ (e : List ℕ) (k : Kernel) (entry stack priority processor : ℕ) where
   abbrev reused : Bool
   reused = ltb (endedThread k) (k .«thread_count»)
@@ -36,27 +43,18 @@ module _ (e : List ℕ) (k : Kernel) (entry stack priority processor : ℕ) wher
   abbrev new : Thread
   new = newThread entry stack (least priority 63) processor (tlsSlot k) (k .«next_guest_id»)
 
-  unfolded : Holds e (withThreads k (k .threads) (tabled (k .objects) store))
-      → Holds (headPut (threadPut e (endedThread k) new) (headMade (headWords k) reused (tlsSlot k) (wordsOf store))) (createThread k entry stack priority processor)
+  unfolded : Holds e (withThreads k (k .threads) store) → Holds (headPut (threadPut e (endedThread k) new) (headMade (headWords (withThreads k (k .threads) store)) reused (tlsSlot k))) (createThread k entry stack priority processor)
   unfolding createThread
   unfolded g = put-head (put-thread g (endedThread k) new) (createThread k entry stack priority processor) refl refl refl refl refl
 
-  -- with the head h of the state, the number id, the slot tls, the words w
-  pub made : (h : Head) → h ≡ headWords k → (id : ℕ) → id ≡ endedThread k → (tls : ℕ) → tls ≡ tlsSlot k
-      → (w : StoreWords) → w ≡ wordsOf (pick (ltb id (h .a .1)) (forgetThread (k .objects) id) (k .objects))
-      → Holds e (withThreads k (k .threads) (tabled (k .objects) (pick (ltb id (h .a .1)) (forgetThread (k .objects) id) (k .objects))))
-      → Holds (headPut (threadPut e id (newThread entry stack (least priority 63) processor tls (h .b .1))) (headMade h (ltb id (h .a .1)) tls w)) (createThread k entry stack priority processor)
-  made h e1 id e2 tls e3 w e4 g =
-      subst (λ (x : Head). (w : StoreWords) → w ≡ wordsOf (pick (ltb id (x .a .1)) (forgetThread (k .objects) id) (k .objects))
-      → Holds e (withThreads k (k .threads) (tabled (k .objects) (pick (ltb id (x .a .1)) (forgetThread (k .objects) id) (k .objects))))
-      → Holds (headPut (threadPut e id (newThread entry stack (least priority 63) processor tls (x .b .1))) (headMade x (ltb id (x .a .1)) tls w)) (createThread k entry stack priority processor)) (sym e1)
-      (with-id id e2 tls e3) w e4 g
-    where
-      with-id : (id : ℕ) → id ≡ endedThread k → (tls : ℕ) → tls ≡ tlsSlot k
-          → (w : StoreWords) → w ≡ wordsOf (pick (ltb id (k .«thread_count»)) (forgetThread (k .objects) id) (k .objects))
-          → Holds e (withThreads k (k .threads) (tabled (k .objects) (pick (ltb id (k .«thread_count»)) (forgetThread (k .objects) id) (k .objects))))
-          → Holds (headPut (threadPut e id (newThread entry stack (least priority 63) processor tls (k .«next_guest_id»))) (headMade (headWords k) (ltb id (k .«thread_count»)) tls w)) (createThread k entry stack priority processor)
-      with-id id e2 tls e3 w e4 g = rw (e4, e3, e2) (unfolded (rw e2 at g))
+  -- with the head h, the number id, the slot tls, n the threads there were
+  pub made : Encoded e → (id : ℕ) → id ≡ endedThread k → (tls : ℕ) → tls ≡ tlsSlot k → (n : ℕ) → n ≡ k .«thread_count»
+      → decBlock e ≡ withThreads k (k .threads) (pick (ltb id n) (forgetThread (k .objects) id) (k .objects)) → (h : Head) → h ≡ headAt e
+      → Holds (headPut (threadPut e id (newThread entry stack (least priority 63) processor tls (h .b .1))) (headMade h (ltb id n) tls)) (createThread k entry stack priority processor)
+  made en id ei tls et n en' d h eh =
+      let q : decBlock e ≡ withThreads k (k .threads) store = rw (ei, en') at d in
+      let w : h ≡ headWords (withThreads k (k .threads) store) = eh ∙ encoded-head e en ∙ ap headWords q in
+      rw (w, ei, et, en') (unfolded (subst (Holds e) q (encoded-holds e en)))
 
 -- ---- what is found
 let-go-full : (q : Bool) (s : ObjectStore) (t o : ℕ) → pick q s (release (unkept s t) o) .full ≡ s .full

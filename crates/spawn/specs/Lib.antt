@@ -1,2 +1,2 @@
--- The tables of a store in a block.
-pub mod Tables
+-- The head that a new thread leaves.
+pub mod Made

@@ -7,14 +7,12 @@ use Rattle.laws.specs.Logic.{_or_, or-end}
 use Rattle.types.specs.declared.object.Slot.{Slot}
 use Rattle.types.specs.declared.kernel.Kernel.{Kernel}
 use Rattle.block.specs.Block.{decBlock}
-use Rattle.sound.specs.View.{noSlot}
 use Rattle.sound.specs.Question.{sound?, t-block}
 use Rattle.object.specs.Slots.{withSlots}
 use Rattle.soundness.specs.Whole.{Parts, sound-parts}
 use Rattle.thread.specs.Threads.{withThreads}
 use Rattle.rows.specs.Holds.{Holds}
-use Rattle.rows.specs.Mapped.{map-each}
-use Rattle.rows.specs.Slots.{slotted, SlotsTo, slots-all}
+use Rattle.rows.specs.Slots.{slotted, SlotsTo, slots-each}
 use Rattle.release.specs.Encoded.{held-sound}
 use Rattle.pass.specs.Signal.{withOverflow, unpulsedSlot, clearPulses}
 use Rattle.pass.specs.Timers.{firedSlot, anyOver, fireTimers}
@@ -23,10 +21,6 @@ use Rattle.passing.specs.Timers.{fireTimers-parts, clearPulses-parts}
 -- a pulse that is not there does not end
 pub unpulsed-same : (x : Slot) → x .pulsed ≡ false → unpulsedSlot x ≡ x
 unpulsed-same x e = let o : unpulsedSlot x .object ≡ x .object = rw e in λ i. record { object = o i; refcount = x .refcount; pulsed = sym e i }
-
--- every slot changed by g
-all-changed : (g : Slot → Slot) (s b : List ℕ) (i : ℕ) → 128 ≤ i → SlotsTo (λ _. g) s i b → Holds b (slotted (λ _. g) s (map g (decBlock s .objects .slots)))
-all-changed g s b i h m = subst (λ (l : List Slot). Holds b (slotted (λ _. g) s l)) (map-each noSlot g 0 (decBlock s .objects .slots)) (slots-all (λ _. g) s i b h m)
 
 module _ (s : List ℕ) (e : sound? s ≡ true) where
   abbrev k : Kernel
@@ -44,13 +38,13 @@ module _ (s : List ℕ) (e : sound? s ≡ true) where
     unfolding fireTimers
     none-over = sym flag ∙ parts .clean .3
 
-    state-is : slotted (λ _. firedSlot tick) s (map (firedSlot tick) (k .objects .slots)) ≡ withThreads k (k .threads) (fireTimers (k .objects) tick)
+    state-is : slotted s (map (firedSlot tick) (k .objects .slots)) ≡ withThreads k (k .threads) (fireTimers (k .objects) tick)
     unfolding fireTimers
     state-is = ap (λ (v : Bool). withThreads k (k .threads) (withOverflow (withSlots (k .objects) (map (firedSlot tick) (k .objects .slots))) v)) flag
 
-    pub fired-all : (b : List ℕ) (i : ℕ) → 128 ≤ i → SlotsTo (λ _. firedSlot tick) s i b → (decBlock b ≡ withThreads k (k .threads) (fireTimers (k .objects) tick)) × (sound? b ≡ true)
-    fired-all b i h m = held-sound b _ (subst (Holds b) state-is (all-changed (firedSlot tick) s b i h m)) (fireTimers-parts k parts tick none-over)
+    pub fired-all : (b : List ℕ) (i : ℕ) → 128 ≤ i → SlotsTo s (λ _. firedSlot tick) i b → (decBlock b ≡ withThreads k (k .threads) (fireTimers (k .objects) tick)) × (sound? b ≡ true)
+    fired-all b i h m = held-sound b _ (subst (Holds b) state-is (slots-each s (firedSlot tick) i b h m)) (fireTimers-parts k parts tick none-over)
 
-  pub cleared-all : (b : List ℕ) (i : ℕ) → 128 ≤ i → SlotsTo (λ _. unpulsedSlot) s i b → (decBlock b ≡ withThreads k (k .threads) (clearPulses (k .objects))) × (sound? b ≡ true)
+  pub cleared-all : (b : List ℕ) (i : ℕ) → 128 ≤ i → SlotsTo s (λ _. unpulsedSlot) i b → (decBlock b ≡ withThreads k (k .threads) (clearPulses (k .objects))) × (sound? b ≡ true)
   unfolding clearPulses
-  cleared-all b i h m = held-sound b _ (all-changed unpulsedSlot s b i h m) (clearPulses-parts k parts)
+  cleared-all b i h m = held-sound b _ (slots-each s unpulsedSlot i b h m) (clearPulses-parts k parts)

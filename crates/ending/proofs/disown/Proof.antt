@@ -21,7 +21,7 @@ abbrev μ-loop : tie.MeasureT-loop
 μ-loop block₀ t i₀ block i = 128 - i
 
 loop-holds : tie.Need-loop-holds Inv-loop μ-loop
-loop-holds c = (search needs, (c .before .pre .0, slots-none (λ _ x. withObject x (disowned (c .before .args .t) (x .object))) (c .before .args .block .now) (c .before .pre .0) (encoded-holds (c .before .args .block .now) (c .before .pre .1))))
+loop-holds c = (search needs, (c .before .pre .0, slots-none (c .before .args .block .now) (λ _ x. withObject x (disowned (c .before .args .t) (x .object))) (c .before .pre .0) (encoded-holds (c .before .args .block .now) (c .before .pre .1))))
 
 slot-at-requires : tie.Need-slot-at-requires Inv-loop μ-loop
 slot-at-requires c κs = search needs
@@ -53,15 +53,15 @@ loop-again c = let l = c .before .before .before .before .before .loop in
     let f : ℕ → Slot → Slot = λ _ x. withObject x (disowned (c .before .before .before .before .before .before .before .args .t) (x .object)) in
     let h : l .i < 128 = omega arith in
     let g = l .inv .1 .1 in
-    let old = c .before .before .slot-at .ensures ∙ slot-before f s (l .i) (l .block) h g in (
+    let old = c .before .before .slot-at .ensures ∙ slot-before s (l .i) (l .block) h (g .rows) in (
       search needs,
       ⊎-elim
           (λ w.
-          let n = slots-more f s (l .i) (l .block) h g (w .2 .result) (w .2 .ensures ∙ ap (f 0) old) in
-          rw (w .6, w .3 .ensures) (n .long, n))
+          let n = slots-more s f (l .i) (l .block) h g (w .2 .result) (w .2 .ensures ∙ ap (f 0) old) in
+          rw (w .6, w .3 .ensures) (n .rows .long, n))
           (λ w.
-          let n = slots-next f s (l .i) (l .block) h g (subst (λ (x : Slot). f 0 x ≡ x) old (disowned-other (c .before .before .before .before .before .before .before .args .t) (c .before .before .slot-at .result) (eqb-false _ _ (sym (c .before .is-mutex .ensures) ∙ w .0 .left)))) in
-          rw (w .1) (n .long, n))
+          let n = slots-next s f (l .i) (l .block) h g (subst (λ (x : Slot). f 0 x ≡ x) old (disowned-other (c .before .before .before .before .before .before .before .args .t) (c .before .before .slot-at .result) (eqb-false _ _ (sym (c .before .is-mutex .ensures) ∙ w .0 .left)))) in
+          rw (w .1) (n .rows .long, n))
           (c .if1 .came),
     )
 

@@ -1,20 +1,17 @@
+
 use borrow.Author.Needs.{needs}
 use Rattle.spawn.proofs.new_head.Statement.{statement}
 use Rattle.spawn.proofs.new_head.Tie as tie
 
--- src/lib.rt:90:9
 counted-requires : tie.Need-counted-requires
 counted-requires c κs = search needs
 
--- src/lib.rt:91:9
 given-out-requires : tie.Need-given-out-requires
 given-out-requires c κs = search needs
 
--- src/lib.rt:92:9
 more-below-requires : tie.Need-more-below-requires
 more-below-requires c κs = search needs
 
--- src/lib.rt:83:1
 returns : tie.Need-returns
 returns c = rw (c .more-below .ensures, c .before .given-out .ensures, c .before .before .counted .ensures)
 

@@ -14,13 +14,13 @@ use Rattle.tries.proofs.slots.fire.Statement.{statement}
 use Rattle.tries.proofs.slots.fire.Tie as tie
 
 abbrev Inv-loop : tie.InvT-loop
-Inv-loop block₀ tick i₀ block i = (i ≤ 128) × ((length block ≡ 16384) × SlotsTo (λ _. firedSlot tick) block₀ i block)
+Inv-loop block₀ tick i₀ block i = (i ≤ 128) × ((length block ≡ 16384) × SlotsTo block₀ (λ _. firedSlot tick) i block)
 
 abbrev μ-loop : tie.MeasureT-loop
 μ-loop block₀ tick i₀ block i = 128 - i
 
 loop-holds : tie.Need-loop-holds Inv-loop μ-loop
-loop-holds c = (search needs, (c .before .pre .0, slots-none (λ _. firedSlot (c .before .args .tick)) (c .before .args .block .now) (c .before .pre .0) (holds (c .before .args .block .now) (c .before .pre .1 .0))))
+loop-holds c = (search needs, (c .before .pre .0, slots-none (c .before .args .block .now) (λ _. firedSlot (c .before .args .tick)) (c .before .pre .0) (holds (c .before .args .block .now) (c .before .pre .1 .0))))
 
 slot-at-requires : tie.Need-slot-at-requires Inv-loop μ-loop
 slot-at-requires c κs = search needs
@@ -52,15 +52,15 @@ loop-again c = let l = c .before .before .before .before .before .loop in
     let f : ℕ → Slot → Slot = λ _. firedSlot (c .before .before .before .before .before .before .before .args .tick) in
     let h : l .i < 128 = omega arith in
     let g = l .inv .1 .1 in
-    let old = c .before .before .slot-at .ensures ∙ slot-before f s (l .i) (l .block) h g in (
+    let old = c .before .before .slot-at .ensures ∙ slot-before s (l .i) (l .block) h (g .rows) in (
       search needs,
       ⊎-elim
           (λ w.
-          let n = slots-more f s (l .i) (l .block) h g (w .2 .result) (w .2 .ensures ∙ ap (f 0) old) in
-          rw (w .6, w .3 .ensures) (n .long, n))
+          let n = slots-more s f (l .i) (l .block) h g (w .2 .result) (w .2 .ensures ∙ ap (f 0) old) in
+          rw (w .6, w .3 .ensures) (n .rows .long, n))
           (λ w.
-          let n = slots-next f s (l .i) (l .block) h g (subst (λ (x : Slot). f 0 x ≡ x) old (fired-same (c .before .before .slot-at .result) (c .before .before .slot-at .result .object) (c .before .before .before .before .before .before .before .args .tick) (sym (c .before .slot-due .ensures) ∙ w .0 .left))) in
-          rw (w .1) (n .long, n))
+          let n = slots-next s f (l .i) (l .block) h g (subst (λ (x : Slot). f 0 x ≡ x) old (fired-same (c .before .before .slot-at .result) (c .before .before .slot-at .result .object) (c .before .before .before .before .before .before .before .args .tick) (sym (c .before .slot-due .ensures) ∙ w .0 .left))) in
+          rw (w .1) (n .rows .long, n))
           (c .if1 .came),
     )
 
