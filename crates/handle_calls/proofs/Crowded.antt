@@ -23,13 +23,12 @@ use Rattle.svc.specs.declared.Registers.{Registers}
 use Rattle.svc.specs.declared.Served.{Served}
 use Rattle.svc.specs.Call.{answers, gives, withHandles, withObjects, resolved}
 use Rattle.svc.specs.Handles.{duplicateHandle}
-use Rattle.calling.specs.Resolves.{resolve-overflow}
 use Rattle.lent.specs.Operations.{finding, outOfHandles?}
 use Rattle.rows.specs.Holds.{holds}
 use Rattle.outcome.specs.Outcome.{refused, answered, accepted, outcome, left, outcome-0, outcome-found, left-0, left-found}
-use Rattle.outcome.specs.Findings.{foundOf, none-found, next-over, parts-finding, both-finding}
+use Rattle.outcome.specs.Findings.{foundOf, none-found, next-over, both-finding}
 use Rattle.objects.specs.Open.{noRoom, Names}
-use Rattle.objects.proofs.Room.{resolved-full}
+use Rattle.objects.proofs.Room.{opened-full, opened-sum, opened-finding}
 
 module _ (b : List ℕ) (s : sound? b ≡ true) (r : Registers) where
   abbrev k : Kernel
@@ -41,14 +40,6 @@ module _ (b : List ℕ) (s : sound? b ≡ true) (r : Registers) where
   abbrev call : Served
   call = duplicateHandle k r
 
-  none-full : k .objects .full ≡ false
-  unfolding decBlock
-  none-full = refl
-
-  none-sum : k .objects .overflow ≡ false
-  unfolding decBlock
-  none-sum = refl
-
   -- an unknown handle
   unknown : x .object .0 ≡ 0 → answers 16 (withObjects k (x .store)) ≡ call
   unfolding duplicateHandle
@@ -58,17 +49,13 @@ module _ (b : List ℕ) (s : sound? b ≡ true) (r : Registers) where
   unfolding duplicateHandle create
   known e = rw (ne-eqb (x .object .0) 0 e)
 
-  opened-finding : finding (withObjects k (x .store)) ≡ foundOf (noRoom k (r .r1)) (outOfHandles? k)
-  unfolding _or_
-  opened-finding = parts-finding b (k .threads) (x .store) ∙ (λ i. foundOf (resolved-full k (r .r1) none-full i) ((resolve-overflow (k .«current_thread») (k .handles) (k .objects) (r .r1) ∙ none-sum) i or outOfHandles? k))
-
   given-finding : finding (withHandles k (give (k .handles) (x .object .0)) (addRef (x .store) (x .object .0))) ≡ foundOf (noRoom k (r .r1) or leb 256 (k .handles .count)) (leb 0xFFFF8000 (k .handles .next .0))
   unfolding give decBlock outOfHandles? _or_
   given-finding =
       let t = give (k .handles) (x .object .0) in
       let y = add-ref-held (x .store) (x .object .0) in
       both-finding b t (addRef (x .store) (x .object .0))
-      ∙ (λ i. foundOf ((ap (λ (z : ObjectStore). z .full) y ∙ resolved-full k (r .r1) none-full) i or leb 256 (k .handles .count)) ((ap (λ (z : ObjectStore). z .overflow) y ∙ resolve-overflow (k .«current_thread») (k .handles) (k .objects) (r .r1) ∙ none-sum) i or next-over (k .handles .next .0) i))
+      ∙ (λ i. foundOf ((ap (λ (z : ObjectStore). z .full) y ∙ opened-full b (r .r1)) i or leb 256 (k .handles .count)) ((ap (λ (z : ObjectStore). z .overflow) y ∙ opened-sum b (r .r1)) i or next-over (k .handles .next .0) i))
 
   refuses : (n : ℕ) → finding (call .kernel) ≡ n → n ≢ 0 → (refused n ≡ outcome call) × (b ≡ left call b)
   refuses n f z = (sym (outcome-found call n f z), sym (left-found call b (λ w. z (sym f ∙ w))))
@@ -82,7 +69,7 @@ module _ (b : List ℕ) (s : sound? b ≡ true) (r : Registers) where
   pub no-slot : noRoom k (r .r1) ≡ true → (refused 7 ≡ outcome call) × (b ≡ left call b)
   unfolding _or_
   no-slot e = elim (ℕ-discrete (x .object .0) 0) [
-    | yes z ↦ refuses 7 (ap (λ (v : Served). finding (v .kernel)) (sym (unknown z)) ∙ opened-finding ∙ rw e) seven
+    | yes z ↦ refuses 7 (ap (λ (v : Served). finding (v .kernel)) (sym (unknown z)) ∙ opened-finding b (r .r1) ∙ rw e) seven
     | no z ↦ refuses 7 (ap (λ (v : Served). finding (v .kernel)) (sym (known z)) ∙ given-finding ∙ rw e) seven
   ]
 
@@ -96,11 +83,11 @@ module _ (b : List ℕ) (s : sound? b ≡ true) (r : Registers) where
       object-is = ap (λ (y : Resolved). y .object .0) (p .none refl)
 
       pub used-up : outOfHandles? k ≡ true → (refused 8 ≡ outcome call) × (b ≡ left call b)
-      used-up q = refuses 8 (ap (λ (v : Served). finding (v .kernel)) (sym (unknown object-is)) ∙ opened-finding ∙ rw (e, q)) eight
+      used-up q = refuses 8 (ap (λ (v : Served). finding (v .kernel)) (sym (unknown object-is)) ∙ opened-finding b (r .r1) ∙ rw (e, q)) eight
 
       pub not-known : outOfHandles? k ≡ false → (answered 16 ≡ outcome call) × (b ≡ left call b)
       not-known q =
-          let f : finding (call .kernel) ≡ 0 = ap (λ (v : Served). finding (v .kernel)) (sym (unknown object-is)) ∙ opened-finding ∙ rw (e, q) in
+          let f : finding (call .kernel) ≡ 0 = ap (λ (v : Served). finding (v .kernel)) (sym (unknown object-is)) ∙ opened-finding b (r .r1) ∙ rw (e, q) in
           let w : answers 16 k ≡ call = ap (λ (y : Resolved). answers 16 (withObjects k (y .store))) (sym (p .none refl)) ∙ unknown object-is in
           (ap accepted w ∙ sym (outcome-0 call f), holds b s .same ∙ ap (λ (v : Served). encBlock (v .kernel)) w ∙ sym (left-0 call b f))
 

@@ -18,7 +18,10 @@ use Rattle.sound.specs.Objects.{keptAt}
 use Rattle.object.specs.declared.kept.Resolved.{Resolved}
 use Rattle.object.specs.Store.{insert}
 use Rattle.object.specs.Kept.{threadObject, processObject, ofCurrent, resolve}
-use Rattle.svc.specs.Call.{resolved}
+use Rattle.svc.specs.Call.{withObjects, resolved}
+use Rattle.calling.specs.Resolves.{resolve-overflow}
+use Rattle.lent.specs.Operations.{finding, outOfHandles?}
+use Rattle.outcome.specs.Findings.{foundOf, parts-finding}
 use Rattle.objects.specs.Open.{makesCurrent, noRoom}
 
 -- y is s, or s with an object more
@@ -47,6 +50,27 @@ module _ (k : Kernel) (h : ℕ) where
   pub resolved-full : k .objects .full ≡ false → resolved k h .store .full ≡ noRoom k h
   unfolding resolve
   resolved-full e = full-as (eqb h 0xFFFF8000) (eqb h 0xFFFF8001) (eqb (k .objects .free) 0) _ _ _ _ _ (current-full (k .objects) e (k .«current_thread»)) (process-full (k .objects) e) e
+
+-- ---- from what a block decodes to
+module _ (b : List ℕ) (h : ℕ) where
+  none-full : decBlock b .objects .full ≡ false
+  unfolding decBlock
+  none-full = refl
+
+  none-sum : decBlock b .objects .overflow ≡ false
+  unfolding decBlock
+  none-sum = refl
+
+  pub opened-full : resolved (decBlock b) h .store .full ≡ noRoom (decBlock b) h
+  opened-full = resolved-full (decBlock b) h none-full
+
+  pub opened-sum : resolved (decBlock b) h .store .overflow ≡ false
+  opened-sum = resolve-overflow (decBlock b .«current_thread») (decBlock b .handles) (decBlock b .objects) h ∙ none-sum
+
+  -- what opening the handle finds
+  pub opened-finding : finding (withObjects (decBlock b) (resolved (decBlock b) h .store)) ≡ foundOf (noRoom (decBlock b) h) (outOfHandles? (decBlock b))
+  unfolding _or_
+  opened-finding = parts-finding b (decBlock b .threads) (resolved (decBlock b) h .store) ∙ (λ i. foundOf (opened-full i) (opened-sum i or outOfHandles? (decBlock b)))
 
 -- ---- as the block is asked; f is its first free slot, p the process's object
 module _ (b : List ℕ) (h f : ℕ) (e : f ≡ le 4 b 32) where

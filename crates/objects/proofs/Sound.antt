@@ -23,11 +23,14 @@ module _ (b : List ℕ) (s : sound? b ≡ true) (h : ℕ) where
   abbrev q : Kernel
   q = withObjects (decBlock b) (resolved (decBlock b) h .store)
 
-  -- the state with the handle's object is sound
-  pub opened-sound : finding q ≡ 0 → Sound q
+  -- the state with the handle's object is sound if there was room for one
+  pub made-sound : resolved (decBlock b) h .store .full ≡ false → Sound q
+  made-sound e = parts-sound q (resolved-parts (decBlock b) (sound-parts (decBlock b) (t-block b .yes s .state)) h e)
+
+  opened-sound : finding q ≡ 0 → Sound q
   opened-sound z =
-      let e = none-found (resolved (decBlock b) h .store .full) (resolved (decBlock b) h .store .overflow or outOfHandles? (decBlock b)) (sym (parts-finding b (decBlock b .threads) (resolved (decBlock b) h .store)) ∙ z) in
-      parts-sound q (resolved-parts (decBlock b) (sound-parts (decBlock b) (t-block b .yes s .state)) h (e .0))
+      made-sound
+      (none-found (resolved (decBlock b) h .store .full) (resolved (decBlock b) h .store .overflow or outOfHandles? (decBlock b)) (sym (parts-finding b (decBlock b .threads) (resolved (decBlock b) h .store)) ∙ z) .0)
 
   pub opened-block : (e : List ℕ) (o : Opened) → Opens (decBlock b) (resolved (decBlock b) h) b e o → sound? e ≡ true
   opened-block e o p = go (eqb (o .found) 0) refl
