@@ -1,3 +1,2 @@
 -- The laws that the proofs of `arbiter` cite.
 pub mod Wakes
-pub mod ByKind

@@ -1,25 +1,21 @@
--- A signal at an address by the code's cases: one record, one step of the walk, one turn of the loop. Assumes nothing.
+-- A signal at an address by the code's cases: one record, one step of the walk. Assumes nothing.
 use mathlib.Core.Path.{_≡_, refl, ap, sym, _∙_}
 use mathlib.Core.Bool.{Bool, true, false}
 use mathlib.Core.Logic.{_≢_}
-use mathlib.Core.List.{List, [], _∷_, _++_, append-nil}
-use Prim.Native.Nat.{ℕ, zero, suc, _+_, _-_, _≤_, _<_}
-use native.Mathlib.Numerals.{add-one}
+use mathlib.Core.List.{List, [], _∷_}
+use Prim.Native.Nat.{ℕ, suc, _+_, _-_}
 use native.Mathlib.Omega.{arith}
-use lib.Dec.{eqb}
-use lib.ListN.{length, take, drop, set, getD, drop-of-length-le}
-use lib.Seq.{take-all}
+use lib.ListN.{length, set}
 use borrow.Author.Tests.{eq-eqb, ne-eqb}
 use Rattle.laws.specs.Logic.{_and_, _or_}
 use Rattle.laws.specs.Count.{at}
 use Rattle.laws.specs.Walk.{walk, walk-nil, walk-out, walk-go}
 use Rattle.types.specs.declared.thread.Thread as th
-use Rattle.types.specs.declared.object.KObject.the-variants.{Thread}
 use Rattle.types.specs.declared.object.Waiter.{Waiter}
 use Rattle.types.specs.declared.object.ObjectStore.{ObjectStore}
 use Rattle.types.specs.declared.kernel.Kernel.{Kernel}
 use Rattle.types.specs.Object.{headOf}
-use Rattle.sound.specs.View.{threadAt, objectAt, waiterNexts, waiterAddresses}
+use Rattle.sound.specs.View.{objectAt, waiterNexts, waiterAddresses}
 use Rattle.sound.specs.Records.{chainOf}
 use Rattle.object.specs.declared.waiters.Links.{Links}
 use Rattle.object.specs.Waiters.{waiterAt, link, relinked}
@@ -27,7 +23,7 @@ use Rattle.object.specs.Cells.{joined, linksOf, threads-joined}
 use Rattle.object.proofs.Laws.{at-waiters, at-thread, slotPut-same, head-same}
 use Rattle.kernel.specs.NextEvent.{contains}
 use Rattle.thread.specs.Threads.{withThreads}
-use Rattle.svc.specs.Arbiter.{toWake, unlinkWoken, wokenUp, wakeAll, signalAddress, wokenAt}
+use Rattle.svc.specs.Arbiter.{toWake, unlinkWoken, wakeAll, signalAddress, wokenAt}
 use Rattle.arbiter.specs.Marks.{parkedMarks, marked, more, staysIn, marksIn, countIn, marksAfter, unlinkMarked, wakeMarked, tells-start, tells-after, unlink-is, wake-is}
 
 -- ---- one record
@@ -93,40 +89,6 @@ module _ (rs ds ns : List ℕ) (a value : ℕ) (p : List ℕ) (n h left free : �
           ∙ rw (walk-go ns left h c d, b .0, b .1 .0, b .1 .1, thread-is, address-is),
       j ∙ rw (walk-go ns left h c d, b .1 .0, b .1 .1, thread-is, address-is),
     )
-
--- ---- the threads that wake
-module _ (p : List ℕ) where
-  wake-set : (o : ℕ) (l : List th.Thread) (i : ℕ) → i < length l → eqb (getD p o 0) 2 ≡ true
-      → take (suc i) (set l i (wokenUp (threadAt l i))) ++ wakeMarked p (suc o) (drop (suc i) (set l i (wokenUp (threadAt l i)))) ≡ take i l ++ wakeMarked p o (drop i l)
-  unfolding wakeMarked
-  wake-set o [] i h e = absurd (omega arith)
-  wake-set o (x ∷ l) zero h e = rw e
-  wake-set o (x ∷ l) (suc i) h e = ap (λ z. x ∷ z) (wake-set o l i (omega arith) e)
-
-  wake-skip : (o : ℕ) (l : List th.Thread) (i : ℕ) → i < length l → eqb (getD p o 0) 2 ≡ false
-      → take (suc i) l ++ wakeMarked p (suc o) (drop (suc i) l) ≡ take i l ++ wakeMarked p o (drop i l)
-  unfolding wakeMarked
-  wake-skip o [] i h e = absurd (omega arith)
-  wake-skip o (x ∷ l) zero h e = rw e
-  wake-skip o (x ∷ l) (suc i) h e = ap (λ z. x ∷ z) (wake-skip o l i (omega arith) e)
-
-  -- the first i are done
-  abbrev pub WokenTo : List th.Thread → ℕ → List th.Thread → Type 0
-  WokenTo ts i q = (length q ≡ 32) × (take i q ++ wakeMarked p i (drop i q) ≡ wakeMarked p 0 ts)
-
-  module _ (ts : List th.Thread) (i : ℕ) (q : List th.Thread) (v : WokenTo ts i q) where
-    pub woken-more : i < 32 → getD p i 0 ≡ 2 → take (i + 1) (set q i (wokenUp (threadAt q i))) ++ wakeMarked p (i + 1) (drop (i + 1) (set q i (wokenUp (threadAt q i)))) ≡ wakeMarked p 0 ts
-    woken-more h e = rw (add-one i) (wake-set i q i (omega (arith, v .0)) (eq-eqb _ 2 e)) ∙ v .1
-
-    pub woken-skip : i < 32 → getD p i 0 ≢ 2 → take (i + 1) q ++ wakeMarked p (i + 1) (drop (i + 1) q) ≡ wakeMarked p 0 ts
-    woken-skip h e = rw (add-one i) (wake-skip i q i (omega (arith, v .0)) (ne-eqb _ 2 e)) ∙ v .1
-
-    pub woken-all : 32 ≤ i → q ≡ wakeMarked p 0 ts
-    unfolding wakeMarked
-    woken-all h =
-        let m : length q ≤ i = omega (arith, v .0) in
-        let e : take i q ++ wakeMarked p i (drop i q) ≡ q = rw (drop-of-length-le q m, take-all i q m) (append-nil q) in
-        sym e ∙ v .1
 
 -- ---- `signal_address`
 pub signal-is : (k : Kernel) (o a value : ℕ)

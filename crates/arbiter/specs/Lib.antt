@@ -1,3 +1,3 @@
--- ArbitrateAddress, as its code looks at it.
+-- What ArbitrateAddress does, as its code looks at it.
 pub mod Park
 pub mod Marks

@@ -1,4 +1,3 @@
-// ArbitrateAddress (svc.rs): threads park at an address, and are woken there.
-pub mod arbiter;
+// ArbitrateAddress (svc.rs): what it does to one thread and to one chain of records.
 pub mod park;
 pub mod wake;

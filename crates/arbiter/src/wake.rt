@@ -1,30 +1,22 @@
 // A signal at an address: threads parked there wake (the signalling kind of `arbitrate_address`).
 // The arbiter's chain is walked by recursion with a falling allowance, so that a damaged chain ends too.
-use object::slots;
 use object::waiters;
 use object::waiters::Ends;
 use object::waiters::Links;
-use types::kernel::Kernel;
-use types::object::ObjectStore;
-use types::object::Slot;
 use types::object::Waiter;
 use types::thread::AddressOption;
 use types::thread::Thread;
 use types::thread::ThreadStatus;
 use types::thread::WaitResult;
-use units::ObjectId;
 ghost use mathlib.Core.Path.{_≡_};
 ghost use Prim.Native.Nat.{_+_, _-_, _<_, _≤_};
 ghost use lib.ListN.{length, set};
 ghost use Rattle.laws.specs.Count as cells;
 ghost use Rattle.laws.specs.Walk.{walk};
-ghost use Rattle.types.specs.Object.{headOf};
-ghost use Rattle.sound.specs.View.{waiterNexts, slotAt};
-ghost use Rattle.sound.specs.Records.{chainOf};
-ghost use Rattle.object.specs.Waiters.{relinked};
+ghost use Rattle.sound.specs.View.{waiterNexts};
 ghost use Rattle.object.specs.Cells.{joined, linksOf};
 ghost use Rattle.svc.specs.Arbiter as def;
-ghost use Rattle.arbiter.specs.Marks.{parkedMarks, marked, more, staysIn, countIn, marksIn, marksAfter, unlinkMarked, wakeMarked};
+ghost use Rattle.arbiter.specs.Marks.{marked, more, staysIn, countIn, marksIn, marksAfter, unlinkMarked};
 
 // What becomes of a record: whether it stays in the chain, and how many threads are woken after it.
 pub struct Decision {
@@ -68,18 +60,6 @@ pub fn parked_mark(t: Thread, a: u32) -> u32
         return 1;
     }
     0
-}
-
-fn parked_marks(ts: [Thread; 32], a: u32) -> [u32; 32]
-    ensures { λ r. ⌜ r ≡ parkedMarks ts a ⌝ }
-{
-    let mut r = [0u32; 32];
-    let mut i: usize = 0;
-    while i < 32 {
-        r[i] = parked_mark(ts[i], a);
-        i += 1;
-    }
-    r
 }
 
 // A number past the places has no mark.
@@ -253,37 +233,6 @@ pub fn unlink_chain(
     }
 }
 
-// The store afterwards; parked is left with the mark 2 for each thread that wakes.
-fn signal_waiters(
-    s: ObjectStore,
-    o: ObjectId,
-    parked: &mut [u32; 32],
-    a: u32,
-    value: u32,
-) -> ObjectStore
-    requires { ⌜ length (now parked) ≡ 32 ⌝ }
-    ensures { λ r. ⌜ r ≡ relinked s (o .0) (unlinkMarked (s .waiters) a value (now (parked .entry)) 0 (s .«free_waiter») (chainOf s (o .0))) ⌝ }
-    ensures { λ _. ⌜ now (parked .exit) ≡ marksAfter (s .waiters) a value (now (parked .entry)) 0 (chainOf s (o .0)) ⌝ }
-    ensures { λ _. ⌜ length (now (parked .exit)) ≡ 32 ⌝ }
-{
-    let old = slots::slot_at(s, o);
-    let object = old.object;
-    let ws = s.waiters;
-    let u = unlink_chain(
-        ws,
-        parked,
-        a,
-        value,
-        types::object::head_of(object),
-        s.free_waiter,
-    );
-    let l = u.waiters;
-    let mut q = slots::put_slot(s, o, waiters::headed(old, u.head));
-    q.waiters = l;
-    q.free_waiter = u.free;
-    q
-}
-
 // Its wait is over, with the index 0.
 pub fn woken_up(t: Thread) -> Thread
     ensures { λ r. ⌜ r ≡ def.wokenUp t ⌝ }
@@ -292,48 +241,4 @@ pub fn woken_up(t: Thread) -> Thread
     let c = thread::thread::without_wait(t);
     let d = thread::thread::with_result(c, WaitResult::Signaled(0), call);
     thread::thread::with_status(d, ThreadStatus::Ready)
-}
-
-fn wake_threads(ts: [Thread; 32], p: [u32; 32]) -> [Thread; 32]
-    ensures { λ r. ⌜ r ≡ wakeMarked p 0 ts ⌝ }
-{
-    let mut q = ts;
-    let mut i: usize = 0;
-    while i < 32 {
-        if p[i] == 2 {
-            q[i] = woken_up(q[i]);
-        }
-        i += 1;
-    }
-    q
-}
-
-// The first record of the object; 0 if it has none.
-pub fn first_record(slots: [Slot; 128], o: u32) -> u32
-    ensures { λ r. ⌜ r ≡ headOf (slotAt slots o .object) ⌝ }
-{
-    if o == 0 {
-        return 0;
-    }
-    if 128 < o {
-        return 0;
-    }
-    let x = slots[(o - 1) as usize];
-    let y = x.object;
-    types::object::head_of(y)
-}
-
-// At most as many as the value, in the order of their records; below 0 all.
-pub fn signal_address(k: Kernel, o: ObjectId, a: u32, value: u32) -> Kernel
-    ensures { λ r. ⌜ r ≡ def.signalAddress k (o .0) a value ⌝ }
-{
-    let s = k.objects;
-    let ts = k.threads;
-    let mut parked = parked_marks(ts, a);
-    let objects = signal_waiters(s, o, &mut parked, a, value);
-    let threads = wake_threads(ts, parked);
-    let mut q = k;
-    q.objects = objects;
-    q.threads = threads;
-    q
 }

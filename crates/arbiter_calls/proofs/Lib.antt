@@ -1,5 +1,6 @@
 -- The laws that the proofs of `arbiter_calls` cite.
-pub mod Parked
-pub mod Waited
+pub mod Records
+pub mod Handle
+pub mod Found
 pub mod Woken
 pub mod ByKind

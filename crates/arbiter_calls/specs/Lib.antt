@@ -1,2 +1,4 @@
 -- What ArbitrateAddress does in the block.
-pub mod Park
+pub mod Record
+pub mod Kinds
+pub mod Found

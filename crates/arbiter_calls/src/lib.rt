@@ -1,4 +1,5 @@
 // ArbitrateAddress in the block where it lies.
 pub mod arbitrate;
 pub mod park;
+pub mod record;
 pub mod wake;

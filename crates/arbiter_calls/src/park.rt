@@ -1,190 +1,145 @@
 // A thread parks at an address (the waiting kinds of `arbitrate_address`).
+use crate::record;
 use arbiter::park;
-use block::Head;
-use block::table;
-use codec::Four;
-use object::waiters;
+use object::handles;
+use objects::open;
 use outcome::Outcome;
 use rows::read;
 use rows::write;
 use svc::WordOption;
-use types::object::Waiter;
 use types::thread::ThreadOption;
 use types::thread::TickOption;
 use units::ObjectId;
 ghost use mathlib.Core.Path.{_≡_};
 ghost use mathlib.Core.Bool.{true, false};
-ghost use lib.Dec.{eqb};
 ghost use lib.ListN.{length};
-ghost use Rattle.laws.specs.Logic.{pick, _and_};
-ghost use Rattle.block.specs.Block.{encBlock, decBlock};
+ghost use Rattle.laws.specs.Logic.{_and_};
+ghost use Rattle.block.specs.Block.{decBlock};
 ghost use Rattle.sound.specs.Question.{sound?};
-ghost use Rattle.sound.specs.Records.{chainOf};
-ghost use Rattle.object.specs.Waiters.{lastOf, pushed, push};
-ghost use Rattle.svc.specs.Call.{withObjects};
-ghost use Rattle.lent.specs.Operations.{finding, outOfHandles?};
-ghost use Rattle.outcome.specs.Outcome.{outcome, left};
+ghost use Rattle.svc.specs.Arbiter as def;
 ghost use Rattle.rows.specs.Holds.{Holds};
-ghost use Rattle.arbiter.specs.Park.{waitBelowIn};
-ghost use Rattle.arbiter_calls.specs.Park.{stores, Place, parkedIn};
+ghost use Rattle.outcome.specs.Outcome.{outcome, left};
+ghost use Rattle.objects.specs.Open.{noRoom};
+ghost use Rattle.arbiter_calls.specs.Kinds.{onHandle, parks};
+ghost use Rattle.arbiter_calls.specs.Found.{storesAs, noRecord, known, foundParking};
 
-// Whether a record is stored, and behind which, 0 for the first of a chain.
-pub struct Room {
-    pub stores: bool,
-    pub last: u32,
-}
-
-// Only an arbiter stores records, and no second one of a thread for one address.
-fn place_for(block: &[u8], o: ObjectId, t: u32, a: u32) -> Room
+// Whether the current thread would store a record; without a current thread nobody parks.
+fn stores_as(block: &[u8], current: ThreadOption, o: ObjectId, a: u32) -> bool
     requires { ⌜ length (now block) ≡ 16384 ⌝ }
-    ensures { λ r. ⌜ Place (decBlock (now (block .entry)) .objects) (o .0) t a r ⌝ }
+    ensures { λ r. ⌜ r ≡ storesAs (decBlock (now (block .entry)) .objects) current (o .0) a ⌝ }
 {
-    let old = read::slot_at(block, o.0);
-    let x = old.object;
-    if !waiters::is_arbiter(x) {
-        return Room {
-            stores: false,
-            last: 0,
-        };
-    }
-    let ws = table::get_waiters(block, 12416);
-    let e = waiters::chain_end(ws, types::object::head_of(x), t, a);
-    if e.has {
-        return Room {
-            stores: false,
-            last: 0,
-        };
-    }
-    Room {
-        stores: true,
-        last: e.last,
+    match current {
+        ThreadOption::NoThread => false,
+        ThreadOption::SomeThread(c) => {
+            let r = record::place_for(block, o, c, a);
+            r.stores
+        }
     }
 }
 
-// The first free record goes behind the last of the object's chain.
-fn put_record(block: &mut [u8], o: ObjectId, last: u32, t: u32, a: u32)
+// A record would be stored, and none is free. A pseudo-handle names no arbiter, and only an arbiter stores records.
+fn no_record(block: &[u8], h: u32, a: u32) -> bool
     requires { ⌜ length (now block) ≡ 16384 ⌝ }
-    requires { ⌜ sound? (now block) ≡ true ⌝ }
-    requires { ⌜ last ≡ lastOf (chainOf (decBlock (now block) .objects) (o .0)) ⌝ }
-    ensures { λ _. ⌜ Holds (now (block .exit)) (withObjects (decBlock (now (block .entry))) (pushed (decBlock (now (block .entry)) .objects) (o .0) t a)) ⌝ }
+    ensures { λ r. ⌜ r ≡ noRecord (decBlock (now (block .entry))) h a ⌝ }
 {
-    let head = block::get_head(block);
-    let p = head.a;
-    let q = head.b;
-    let c = head.c;
-    let d = head.d;
-    let old = read::slot_at(block, o.0);
-    let x = old.object;
-    let ws = table::get_waiters(block, 12416);
-    let unused = waiters::waiter_at(ws, c.1);
-    let l = waiters::hang(
-        ws,
-        last,
-        c.1,
-        Waiter {
-            thread: t,
-            address: a,
-            next: 0,
-        },
-    );
-    let first = waiters::first_of(types::object::head_of(x), c.1);
-    table::put_waiters(block, 12416, l);
-    write::put_slot(block, o.0, waiters::headed(old, first));
-    write::put_head(
-        block,
-        Head {
-            a: p,
-            b: q,
-            c: Four(c.0, unused.next, c.2, c.3),
-            d: d,
-        },
-    );
-}
-
-fn put_pushed(block: &mut [u8], o: ObjectId, r: Room, t: u32, a: u32)
-    requires { ⌜ length (now block) ≡ 16384 ⌝ }
-    requires { ⌜ sound? (now block) ≡ true ⌝ }
-    requires { ⌜ Place (decBlock (now block) .objects) (o .0) t a r ⌝ }
-    ensures { λ _. ⌜ Holds (now (block .exit)) (withObjects (decBlock (now (block .entry))) (push (decBlock (now (block .entry)) .objects) (o .0) t a)) ⌝ }
-{
-    if !r.stores {
-        return;
-    }
-    put_record(block, o, r.last, t, a);
-}
-
-// A record is to be stored, and none is free.
-fn is_full(stores: bool, free: u32) -> bool
-    ensures { λ r. ⌜ r ≡ stores and eqb free 0 ⌝ }
-{
-    if !stores {
+    if codec::get32(block, 36) != 0 {
         return false;
     }
-    free == 0
+    let current = read::current(block);
+    stores_as(block, current, asked::open::open_object(block, h), a)
 }
 
-// Gives what is found; over says that a sum of the call does not fit. With a finding the block stays as it is.
-fn park_at(
-    block: &mut [u8],
-    c: u32,
-    o: ObjectId,
-    a: u32,
-    wake: TickOption,
-    over: bool,
-) -> u32
+// A sum that does not fit counts only where the thread parks: if the handle names an object.
+fn over_known(block: &[u8], h: u32, over: bool) -> bool
     requires { ⌜ length (now block) ≡ 16384 ⌝ }
     requires { ⌜ sound? (now block) ≡ true ⌝ }
-    requires { ⌜ outOfHandles? (decBlock (now block)) ≡ false ⌝ }
-    requires { ⌜ decBlock (now block) .«current_thread» ≡ ThreadOption.SomeThread c ⌝ }
-    ensures { λ n. ⌜ n ≡ finding (parkedIn (decBlock (now (block .entry))) c (o .0) a wake over) ⌝ }
-    ensures { λ n. ⌜ now (block .exit) ≡ pick (eqb n 0) (encBlock (parkedIn (decBlock (now (block .entry))) c (o .0) a wake over)) (now (block .entry)) ⌝ }
+    requires { ⌜ noRoom (decBlock (now block)) h ≡ false ⌝ }
+    ensures { λ r. ⌜ r ≡ over and known (decBlock (now (block .entry))) h ⌝ }
 {
-    let r = place_for(block, o, c, a);
-    let full = is_full(r.stores, codec::get32(block, 36));
-    let found = outcome::found_of(full, over);
-    if found != 0 {
-        return found;
+    if !over {
+        return false;
     }
-    let t = read::thread_at(block, c);
-    put_pushed(block, o, r, c, a);
-    write::put_thread(block, c, park::parked(t, a, wake));
-    0
+    open::names(block, h)
 }
 
-// The current thread c parks if the word is less than the value; the word is written before.
-pub fn wait_below(
+// What is found if the current thread parks through the handle; over says that a sum of the call does not fit.
+fn found_parking(block: &[u8], h: u32, a: u32, over: bool) -> u32
+    requires { ⌜ length (now block) ≡ 16384 ⌝ }
+    requires { ⌜ sound? (now block) ≡ true ⌝ }
+    ensures { λ n. ⌜ n ≡ foundParking (decBlock (now (block .entry))) h a over ⌝ }
+{
+    if open::no_room(block, h) {
+        return 7;
+    }
+    let full = no_record(block, h, a);
+    let sum = over_known(block, h, over);
+    outcome::found_of(full, handles::either(sum, outcome::out_of_handles(block)))
+}
+
+// With a record at the end of the arbiter's chain; with an object of another kind it parks without one.
+fn park_at(block: &mut [u8], c: u32, o: ObjectId, a: u32, time: TickOption, tick: u64)
+    requires { ⌜ length (now block) ≡ 16384 ⌝ }
+    requires { ⌜ sound? (now block) ≡ true ⌝ }
+    requires { ⌜ decBlock (now block) .«current_thread» ≡ ThreadOption.SomeThread c ⌝ }
+    ensures { λ _. ⌜ Holds (now (block .exit)) (def.parkAs (ThreadOption.SomeThread c) (decBlock (now (block .entry))) (o .0) a time tick) ⌝ }
+{
+    let t = read::thread_at(block, c);
+    let wake = begin::wake_tick(time, tick);
+    record::put_pushed(block, o, c, a);
+    write::put_thread(block, c, park::parked(t, a, wake));
+}
+
+fn park_as(
     block: &mut [u8],
-    c: u32,
-    decrements: bool,
-    time: TickOption,
+    current: ThreadOption,
     o: ObjectId,
     a: u32,
-    value: u32,
-    word: u32,
+    time: TickOption,
     tick: u64,
+)
+    requires { ⌜ length (now block) ≡ 16384 ⌝ }
+    requires { ⌜ sound? (now block) ≡ true ⌝ }
+    requires { ⌜ decBlock (now block) .«current_thread» ≡ current ⌝ }
+    ensures { λ _. ⌜ Holds (now (block .exit)) (def.park (decBlock (now (block .entry))) (o .0) a time tick) ⌝ }
+{
+    match current {
+        ThreadOption::NoThread => {}
+        ThreadOption::SomeThread(c) => park_at(block, c, o, a, time, tick),
+    }
+}
+
+// The current thread parks, and the word is written. What would be found is looked for before the object of a
+// pseudo-handle is made: a finding must leave the block as it was.
+pub fn park_current(
+    block: &mut [u8],
+    h: u32,
+    a: u32,
+    time: TickOption,
+    tick: u64,
+    over: bool,
+    word: WordOption,
 ) -> Outcome
     requires { ⌜ length (now block) ≡ 16384 ⌝ }
     requires { ⌜ sound? (now block) ≡ true ⌝ }
-    requires { ⌜ outOfHandles? (decBlock (now block)) ≡ false ⌝ }
-    requires { ⌜ decBlock (now block) .«current_thread» ≡ ThreadOption.SomeThread c ⌝ }
-    ensures { λ r. ⌜ r ≡ outcome (waitBelowIn decrements time (decBlock (now (block .entry))) (o .0) a value word tick) ⌝ }
-    ensures { λ _. ⌜ now (block .exit) ≡ left (waitBelowIn decrements time (decBlock (now (block .entry))) (o .0) a value word tick) (now (block .entry)) ⌝ }
+    ensures { λ r. ⌜ r ≡ outcome (onHandle (decBlock (now (block .entry))) h (parks a time tick over word)) ⌝ }
+    ensures { λ _. ⌜ now (block .exit) ≡ left (onHandle (decBlock (now (block .entry))) h (parks a time tick over word)) (now (block .entry)) ⌝ }
 {
-    if !park::is_below(word, value) {
-        return outcome::done();
-    }
-    let over = park::over_below(false, decrements, word);
-    let wake = begin::wake_tick(time, tick);
-    let found = park_at(block, c, o, a, wake, over);
+    let found = found_parking(block, h, a, over);
     if found != 0 {
         return outcome::refused(found);
     }
-    let written = park::word_after(decrements, word);
+    let x = open::open(block, h);
+    let o = x.object;
+    if o.0 == 0 {
+        return outcome::answers(16);
+    }
+    let current = read::current(block);
+    park_as(block, current, o, a, time, tick);
     Outcome {
         found: 0,
         answer: 0,
         r0: WordOption::SomeWord(0),
         r1: WordOption::NoWord,
-        word: written,
+        word: word,
     }
 }

@@ -44,7 +44,7 @@ loop-less : tie.Need-loop-less Inv-loop μ-loop
 loop-less c = search needs
 
 loop-again : tie.Need-loop-again Inv-loop μ-loop
-loop-again c =     let l = c .before .before .before .loop in
+loop-again c = let l = c .before .before .before .loop in
     let a = c .before .before .before .before .before .args in
     let ts = decBlock (a .block .now) .threads in
     let h : l .i < length ts = omega (arith, size-threads (a .block .now)) in
@@ -52,7 +52,7 @@ loop-again c =     let l = c .before .before .before .loop in
     (search needs, (search needs, rw (c .parked-mark .ensures, c .before .thread-at .ensures) (map-more (λ (x : Thread). one? (parkedAt x (a .a))) ts _ (l .r) (l .i) h k (l .inv .1 .1))))
 
 returns : tie.Need-returns Inv-loop μ-loop
-returns c =     let l = c .before .loop in
+returns c = let l = c .before .loop in
     let a = c .before .before .before .args in
     let ts = decBlock (a .block .now) .threads in
     let e : length ts ≤ l .i = omega (arith, size-threads (a .block .now)) in

@@ -1,7 +1,7 @@
 use mathlib.Core.Path.{_≡_, sym, _∙_}
 use native.Mathlib.Omega.{arith}
 use Rattle.rows.specs.Head.{sound-head}
-use Rattle.arbiter_calls.proofs.Parked.{waiters-are}
+use Rattle.arbiter_calls.proofs.Records.{waiters-are}
 use Rattle.arbiter_calls.proofs.Woken.{links, unsignaled, signaled}
 use borrow.Author.Needs.{needs}
 use Rattle.arbiter_calls.proofs.wake.signal_address.Statement.{statement}
@@ -17,7 +17,7 @@ same-length : tie.Need-same-length
 same-length c = search needs
 
 returns : tie.Need-returns
-returns c =     let a = c .before .before .before .before .before .args in
+returns c = let a = c .before .before .before .before .before .args in
     unsignaled (a .block .now) (a .block .now) (a .o .0) (a .a) (a .value) (c .before .before .before .before .before .pre .1) (rw (c .before .before .slot-at .ensures) at (sym (c .before .head-of .ensures) ∙ c .if1 .taken))
 
 get-head-requires : tie.Need-get-head-requires
@@ -51,7 +51,7 @@ same-length-2 : tie.Need-same-length-2
 same-length-2 c = search needs
 
 returns-2 : tie.Need-returns-2
-returns-2 c =     let a = c .before .before .before .before .before .before .before .before .before .before .before .before .before .before .before .before .before .before .before .before .before .before .before .before .before .before .before .before .before .before .before .before .before .before .before .args in
+returns-2 c = let a = c .before .before .before .before .before .before .before .before .before .before .before .before .before .before .before .before .before .before .before .before .before .before .before .before .before .before .before .before .before .before .before .before .before .before .before .args in
     let b = a .block .now in
     let s = c .before .before .before .before .before .before .before .before .before .before .before .before .before .before .before .before .before .before .before .before .before .before .before .before .before .before .before .before .before .before .before .before .before .before .before .pre .1 in
     let w = c .before .before .before .before .before .before .before .before .before .before .before .before .before .before .before .before .before .before .before .before .before .before .get-waiters .ensures ∙ waiters-are b in

@@ -45,7 +45,7 @@ loop-less : tie.Need-loop-less Inv-loop μ-loop
 loop-less c = search needs
 
 loop-again : tie.Need-loop-again Inv-loop μ-loop
-loop-again c =     let l = c .before .before .loop in
+loop-again c = let l = c .before .before .loop in
     let a = c .before .before .before .before .args in
     let h : l .i < 32 = omega arith in
     let g = l .inv .1 .1 in (
@@ -64,7 +64,7 @@ same-length : tie.Need-same-length Inv-loop μ-loop
 same-length c = search needs
 
 returns : tie.Need-returns Inv-loop μ-loop
-returns c =     let l = c .before .loop in
+returns c = let l = c .before .loop in
     let a = c .before .before .before .args in
     let e : l .i ≡ 32 = omega arith in
     woken-all (a .t2) (a .block .now) (l .block) (rw e at (l .inv .1 .1))
