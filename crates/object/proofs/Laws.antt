@@ -10,7 +10,7 @@ use lib.Dec.{eqb}
 use lib.ListN.{length, getD, set, take, drop, length-map, length-take, List·getD-map, List·getD-eq-default, drop-of-length-le, length-set}
 use lib.Seq.{drop-cons, set-out, set-getD, getD-take}
 use borrow.Author.Tests.{eq-eqb, ne-eqb}
-use Rattle.laws.specs.Logic.{pick, pick-yes, pick-no, _and_, _or_, and-false}
+use Rattle.laws.specs.Logic.{pick, _and_, _or_, and-false}
 use Rattle.laws.specs.Count.{at}
 use Rattle.laws.specs.Walk.{walk, walk-nil, walk-go}
 use Rattle.units.specs.declared.ObjectId.{ObjectId}
@@ -22,12 +22,12 @@ use Rattle.types.specs.declared.object.HandleEntry.{HandleEntry}
 use Rattle.types.specs.declared.object.HandleTable.{HandleTable}
 use Rattle.types.specs.declared.object.ObjectStore.{ObjectStore}
 use Rattle.types.specs.Object.{headOf}
-use Rattle.sound.specs.View.{ids, noSlot, slotAt, slotAt-pos, slotAt-out, objectAt, waiterNexts, waiterThreads, waiterAddresses}
-use Rattle.sound.specs.Records.{chainOf, has?}
+use Rattle.sound.specs.View.{ids, noSlot, slotAt, slotAt-pos, slotAt-out, objectAt, waiterNexts, waiterThreads}
+use Rattle.sound.specs.Records.{has?}
 use Rattle.tally.specs.Place.{isSlot, slot-some, slot-past, slotIndex, index-slot}
 use Rattle.object.specs.declared.waiters.Links.{Links}
 use Rattle.object.specs.Slots.{slotPut, withSlots, withObject}
-use Rattle.object.specs.Waiters.{noWaiter, waiterAt, waiterPut, link, unlink, withHead, retain, ofOthers, dropThread, lastOf, firstOf, isArbiter, pushed, push}
+use Rattle.object.specs.Waiters.{noWaiter, waiterAt, waiterPut, link, unlink, withHead, retain, ofOthers, dropThread, lastOf, firstOf}
 use Rattle.object.specs.declared.handles.Both.{Both}
 use Rattle.object.specs.Store.{isFree, addRef, release}
 use Rattle.object.specs.Held.{held}
@@ -91,7 +91,6 @@ put-in f l o n = go (isSlot o) refl
         none : (k : ℕ) → isSlot k ≡ false → slotPut l k (f (slotAt l k)) ≡ l
         none zero h = slotPut-none l 0 _ refl
         none (suc i) h = slotPut-far l (suc i) _ (omega (arith, n, slot-past (suc i) h (omega arith)))
-
 
 -- ---- a list of objects, first to last
 abbrev noId : ObjectId
@@ -284,21 +283,6 @@ module _ (s : ObjectStore) (l : List Slot) (ws : List Waiter) (free t i : ℕ) (
   drop-none e =
       sym (drop-turn (withRecords s l ws free) t i h
       ∙ rw (walk-nil (waiterNexts ws) 64 (headOf (getD l i noSlot .object)) e, head-same (getD l i noSlot .object) e, set-getD l i noSlot))
-
--- ---- a record more
-module _ (s : ObjectStore) (o t a : ℕ) where
-  pub push-other : isArbiter (objectAt s o) ≡ false → s ≡ push s o t a
-  unfolding push
-  push-other e = sym (pick-no (isArbiter (objectAt s o)) _ s e)
-
-  module _ (e : isArbiter (objectAt s o) ≡ true) where
-    pub push-same : has? (waiterThreads (s .waiters)) (waiterAddresses (s .waiters)) t a (chainOf s o) ≡ true → s ≡ push s o t a
-    unfolding push
-    push-same f = sym (pick-yes (isArbiter (objectAt s o)) _ s e ∙ pick-yes (has? (waiterThreads (s .waiters)) (waiterAddresses (s .waiters)) t a (chainOf s o)) s _ f)
-
-    pub push-new : has? (waiterThreads (s .waiters)) (waiterAddresses (s .waiters)) t a (chainOf s o) ≡ false → pushed s o t a ≡ push s o t a
-    unfolding push
-    push-new f = sym (pick-yes (isArbiter (objectAt s o)) _ s e ∙ pick-no (has? (waiterThreads (s .waiters)) (waiterAddresses (s .waiters)) t a (chainOf s o)) s _ f)
 
 -- ---- a handle goes
 module _ (t : HandleTable) (s : ObjectStore) (h : ℕ) where

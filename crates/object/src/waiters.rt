@@ -1,12 +1,10 @@
 // The records of address arbiters, numbered from 1: a chain each, and the free one.
 // Chains are walked by recursion with a falling allowance, so that a damaged chain ends too.
-use crate::slots;
 use types::object::KObject;
 use types::object::ObjectStore;
 use types::object::Slot;
 use types::object::Waiter;
 use types::sync::AddressArbiter;
-use units::ObjectId;
 ghost use mathlib.Core.Path.{_≡_};
 ghost use mathlib.Core.Bool.{false};
 ghost use mathlib.Core.List.{_∷_};
@@ -379,37 +377,6 @@ pub fn hang(ws: [Waiter; 64], last: u32, r: u32, w: Waiter) -> [Waiter; 64]
     put_waiter(l, r, w)
 }
 
-// last is the last record of the object's chain, 0 if there is none.
-fn pushed(s: ObjectStore, o: ObjectId, t: u32, a: u32, last: u32) -> ObjectStore
-    requires { ⌜ last ≡ def.lastOf (chains.chainOf s (o .0)) ⌝ }
-    ensures { λ r. ⌜ r ≡ def.pushed s (o .0) t a ⌝ }
-{
-    let old = slots::slot_at(s, o);
-    let object = old.object;
-    let ws = s.waiters;
-    let r = s.free_waiter;
-    let head = types::object::head_of(object);
-    let unused = waiter_at(ws, r);
-    let l = hang(
-        ws,
-        last,
-        r,
-        Waiter {
-            thread: t,
-            address: a,
-            next: 0,
-        },
-    );
-    let mut q = slots::put_slot(s, o, headed(old, first_of(head, r)));
-    q.waiters = l;
-    q.free_waiter = unused.next;
-    if r == 0 {
-        q.full = true;
-        return q;
-    }
-    q
-}
-
 // Whether a chain has a record already, and its last record, 0 if it has none.
 pub struct ChainEnd {
     pub has: bool,
@@ -431,30 +398,10 @@ pub fn chain_end(ws: [Waiter; 64], head: u32, t: u32, a: u32) -> ChainEnd
     let threads = tally::columns::threads_of(ws);
     let addresses = tally::columns::addresses_of(ws);
     if has_record(&nexts, &threads, &addresses, t, a, head, 64) {
-        return ChainEnd {
-            has: true,
-            last: 0,
-        };
+        return ChainEnd { has: true, last: 0 };
     }
     ChainEnd {
         has: false,
         last: last_of(&nexts, 0, head, 64),
     }
-}
-
-// A record more at the end of an arbiter's chain; a thread's second one for one address is not stored.
-pub fn push(s: ObjectStore, o: ObjectId, t: u32, a: u32) -> ObjectStore
-    ensures { λ r. ⌜ r ≡ def.push s (o .0) t a ⌝ }
-{
-    let old = slots::slot_at(s, o);
-    let object = old.object;
-    if !is_arbiter(object) {
-        return s;
-    }
-    let ws = s.waiters;
-    let e = chain_end(ws, types::object::head_of(object), t, a);
-    if e.has {
-        return s;
-    }
-    pushed(s, o, t, a, e.last)
 }
