@@ -38,7 +38,8 @@ use Rattle.rows.specs.Holds.{Holds}
 use Rattle.outcome.specs.Findings.{foundOf, none-found, over-finding}
 use Rattle.objects.specs.Open.{noRoom, Names}
 use Rattle.objects.proofs.Room.{opened-full, opened-sum, opened-finding}
-use Rattle.objects.proofs.Pseudo.{pseudo-named}
+use Rattle.objects.proofs.Pseudo.{pseudo-object}
+use Rattle.objects.proofs.Sound.{made-sound}
 use Rattle.arbiter_calls.specs.Record.{stores}
 use Rattle.arbiter_calls.specs.Kinds.{parks, onHandle}
 use Rattle.arbiter_calls.specs.Found.{lacks, noRecord, known, foundParking}
@@ -106,7 +107,7 @@ module _ (b : List ℕ) (s : sound? b ≡ true) (h a : ℕ) where
   lacks-as : (t : Bool) → pseudo h ≡ t → x .object .0 ≢ 0 → noRoom k h ≡ false
       → lacks (x .store) (k .«current_thread») (x .object .0) a ≡ lacks (k .objects) (k .«current_thread») (pick t 0 (objectOf (k .handles) h)) a
   lacks-as true e z r =
-      stores-none (x .store) (k .«current_thread») (x .object .0) a (other-kind (objectAt (x .store) (x .object .0)) (pseudo-named b s h e r z))
+      stores-none (x .store) (k .«current_thread») (x .object .0) a (pseudo-object (λ (y : KObject). isArbiter y ≡ false) refl other-kind k h e (made-sound b s h (opened-full b h ∙ r) .kept))
       ∙ sym (zero-none (k .objects) (k .«current_thread») 0 a refl)
   lacks-as false e z r = ap (λ (y : Resolved). lacks (y .store) (k .«current_thread») (y .object .0) a) (plain-is e)
 

@@ -22,7 +22,7 @@ use Rattle.object.specs.Kept.{threadObject, processObject, ofCurrent, resolve}
 use Rattle.svc.specs.Call.{resolved}
 use Rattle.rows.specs.Holds.{holds}
 use Rattle.rows.specs.Current.{some-thread, no-thread, current-place}
-use Rattle.objects.specs.Open.{makesCurrent, noRoom, Names}
+use Rattle.objects.specs.Open.{makesCurrent, noRoom, named, Names}
 use Rattle.objects.proofs.Opened.{thread-kept, process-kept, made-thread, made-process, kept-put}
 
 -- no slot free, and one is to be made
@@ -51,24 +51,21 @@ module _ (b : List ℕ) (s : sound? b ≡ true) (h : ℕ) where
       | no w ↦ w (ap (λ (y : ObjectStore). keptAt y t) (sym (thread-kept b s t w)) ∙ z)
     ]
 
-    names-nobody : (c : ThreadOption) → c ≡ k .«current_thread» → threadFlag c ≡ 0 → Names k h false
-    names-nobody c q z = record {
-      none = λ _. current-is ∙ ap (ofCurrent (k .objects)) (sym q ∙ no-thread c z);
+    names-nobody : threadFlag (k .«current_thread») ≡ 0 → Names k h false
+    names-nobody z = record {
+      none = λ _. current-is ∙ ap (ofCurrent (k .objects)) (no-thread (k .«current_thread») z);
       some = λ w. false-true w;
     }
 
-    names-current : (c : ThreadOption) → c ≡ k .«current_thread» → threadFlag c ≢ 0 → Names k h true
-    names-current c q z = record {
+    names-current : threadFlag (k .«current_thread») ≢ 0 → Names k h true
+    names-current z = record {
       none = λ w. false-true (sym w);
-      some = λ _ r w. let u = sym q ∙ some-thread c z in thread-some (threadValue c) u r (sym (ap (λ (y : Resolved). y .object .0) (current-is ∙ ap (ofCurrent (k .objects)) u)) ∙ w);
+      some = λ _ r w. let u = some-thread (k .«current_thread») z in thread-some (threadValue (k .«current_thread»)) u r (sym (ap (λ (y : Resolved). y .object .0) (current-is ∙ ap (ofCurrent (k .objects)) u)) ∙ w);
     }
 
-    pub names-flag : (c : ThreadOption) → c ≡ k .«current_thread» → (n : ℕ) → n ≡ threadFlag c → Names k h (not (eqb n 0))
-    names-flag c q n f = go (eqb n 0) refl
-      where
-        go : (t : Bool) → eqb n 0 ≡ t → Names k h (not t)
-        go true z = names-nobody c q (sym f ∙ eqb-true n 0 z)
-        go false z = names-current c q (λ w. eqb-false n 0 z (f ∙ w))
+    names-flag : (t : Bool) → eqb (threadFlag (k .«current_thread»)) 0 ≡ t → Names k h (not t)
+    names-flag true z = names-nobody (eqb-true (threadFlag (k .«current_thread»)) 0 z)
+    names-flag false z = names-current (eqb-false (threadFlag (k .«current_thread»)) 0 z)
 
   module _ (e : h ≢ 0xFFFF8000) where
     -- ---- the process's
@@ -88,21 +85,27 @@ module _ (b : List ℕ) (s : sound? b ≡ true) (h : ℕ) where
         | no w ↦ w (ap (λ (y : ObjectStore). y .«process_object» .0) (sym (process-kept b s w)) ∙ z)
       ]
 
-      pub names-process : Names k h true
+      names-process : Names k h true
       names-process = record {
         none = λ w. false-true (sym w);
         some = λ _ r w. process-some r (sym (ap (λ (y : Resolved). y .object .0) process-is) ∙ w);
       }
 
     -- ---- one of the table
-    module _ (f : h ≢ 0xFFFF8001) (o : ℕ) (q : o ≡ objectOf (k .handles) h) where
-      plain-is : resolved k h ≡ record { object = record { 0 = o }; store = k .objects }
+    module _ (f : h ≢ 0xFFFF8001) where
+      plain-is : resolved k h ≡ record { object = record { 0 = objectOf (k .handles) h }; store = k .objects }
       unfolding resolve
-      plain-is = rw (ne-eqb h 0xFFFF8000 e, ne-eqb h 0xFFFF8001 f, q)
+      plain-is = rw (ne-eqb h 0xFFFF8000 e, ne-eqb h 0xFFFF8001 f)
 
-      names-as : (t : Bool) → eqb o 0 ≡ t → Names k h (not t)
-      names-as true z = record { none = λ _. plain-is ∙ ap (λ (m : ℕ). record { object = record { 0 = m }; store = k .objects }) (eqb-true o 0 z); some = λ w. false-true w }
-      names-as false z = record { none = λ w. false-true (sym w); some = λ _ _ w. eqb-false o 0 z (sym (ap (λ (y : Resolved). y .object .0) plain-is) ∙ w) }
+      names-plain : (t : Bool) → eqb (objectOf (k .handles) h) 0 ≡ t → Names k h (not t)
+      names-plain true z = record { none = λ _. plain-is ∙ ap (λ (m : ℕ). record { object = record { 0 = m }; store = k .objects }) (eqb-true (objectOf (k .handles) h) 0 z); some = λ w. false-true w }
+      names-plain false z = record { none = λ w. false-true (sym w); some = λ _ _ w. eqb-false (objectOf (k .handles) h) 0 z (sym (ap (λ (y : Resolved). y .object .0) plain-is) ∙ w) }
 
-      pub names-plain : Names k h (not (eqb o 0))
-      names-plain = names-as (eqb o 0) refl
+  pub names-is : Names k h (named k h)
+  names-is = elim (ℕ-discrete h 0xFFFF8000) [
+    | yes e ↦ rw (eq-eqb h 0xFFFF8000 e) (names-flag e (eqb (threadFlag (k .«current_thread»)) 0) refl)
+    | no e ↦ elim (ℕ-discrete h 0xFFFF8001) [
+      | yes f ↦ rw (ne-eqb h 0xFFFF8000 e, eq-eqb h 0xFFFF8001 f) (names-process e f)
+      | no f ↦ rw (ne-eqb h 0xFFFF8000 e, ne-eqb h 0xFFFF8001 f) (names-plain e f (eqb (objectOf (k .handles) h) 0) refl)
+    ]
+  ]

@@ -22,7 +22,7 @@ use Rattle.svc.specs.Call.{withObjects, resolved}
 use Rattle.calling.specs.Resolves.{resolve-overflow}
 use Rattle.lent.specs.Operations.{finding, outOfHandles?}
 use Rattle.outcome.specs.Findings.{foundOf, parts-finding}
-use Rattle.objects.specs.Open.{makesCurrent, noRoom}
+use Rattle.objects.specs.Open.{makesCurrent, makes, noRoom}
 
 -- y is s, or s with an object more
 made-full : (t f : Bool) (s y : ObjectStore) → s .full ≡ false → y .full ≡ s .full or f → pick t y s .full ≡ f and t
@@ -72,32 +72,33 @@ module _ (b : List ℕ) (h : ℕ) where
   unfolding _or_
   opened-finding = parts-finding b (decBlock b .threads) (resolved (decBlock b) h .store) ∙ (λ i. foundOf (opened-full i) (opened-sum i or outOfHandles? (decBlock b)))
 
--- ---- as the block is asked; f is its first free slot, p the process's object
-module _ (b : List ℕ) (h f : ℕ) (e : f ≡ le 4 b 32) where
+-- ---- as the block is asked
+module _ (b : List ℕ) (h : ℕ) where
   abbrev j : Kernel
   j = decBlock b
 
-  free-is : f ≡ j .objects .free
-  unfolding decBlock decAs
-  free-is = e
+  -- f is its first free slot
+  module _ (f : ℕ) (e : f ≡ le 4 b 32) where
+    free-is : f ≡ j .objects .free
+    unfolding decBlock decAs
+    free-is = e
 
-  pub room-some : f ≢ 0 → false ≡ noRoom j h
-  unfolding _and_
-  room-some z = rw (ne-eqb (j .objects .free) 0 (λ w. z (free-is ∙ w)))
-
-  module _ (z : f ≡ 0) where
-    none : eqb (j .objects .free) 0 ≡ true
-    none = eq-eqb (j .objects .free) 0 (sym free-is ∙ z)
-
-    pub room-current : h ≡ 0xFFFF8000 → (c : ThreadOption) → c ≡ j .«current_thread» → makesCurrent (j .objects) c ≡ noRoom j h
+    pub room-some : f ≢ 0 → false ≡ noRoom j h
     unfolding _and_
-    room-current w c q = rw (q, none, eq-eqb h 0xFFFF8000 w)
+    room-some z = rw (ne-eqb (j .objects .free) 0 (λ w. z (free-is ∙ w)))
 
-    module _ (n : h ≢ 0xFFFF8000) where
-      pub room-process : h ≡ 0xFFFF8001 → (p : ℕ) → p ≡ le 4 b 48 → eqb p 0 ≡ noRoom j h
-      unfolding _and_ decBlock decAs
-      room-process w p q = rw (q, none, ne-eqb h 0xFFFF8000 n, eq-eqb h 0xFFFF8001 w)
+    pub room-none : f ≡ 0 → makes j h ≡ noRoom j h
+    unfolding _and_
+    room-none z = rw (eq-eqb (j .objects .free) 0 (sym free-is ∙ z))
 
-      pub room-plain : h ≢ 0xFFFF8001 → false ≡ noRoom j h
-      unfolding _and_
-      room-plain w = rw (none, ne-eqb h 0xFFFF8000 n, ne-eqb h 0xFFFF8001 w)
+  pub makes-current : h ≡ 0xFFFF8000 → (c : ThreadOption) → c ≡ j .«current_thread» → makesCurrent (j .objects) c ≡ makes j h
+  makes-current w c q = rw (q, eq-eqb h 0xFFFF8000 w)
+
+  -- p is the process's object
+  module _ (n : h ≢ 0xFFFF8000) where
+    pub makes-process : h ≡ 0xFFFF8001 → (p : ℕ) → p ≡ le 4 b 48 → eqb p 0 ≡ makes j h
+    unfolding decBlock decAs
+    makes-process w p q = rw (q, ne-eqb h 0xFFFF8000 n, eq-eqb h 0xFFFF8001 w)
+
+    pub makes-plain : h ≢ 0xFFFF8001 → false ≡ makes j h
+    makes-plain w = rw (ne-eqb h 0xFFFF8000 n, ne-eqb h 0xFFFF8001 w)

@@ -27,7 +27,7 @@ module _ (b : List ℕ) (s : sound? b ≡ true) (h : ℕ) where
   pub made-sound : resolved (decBlock b) h .store .full ≡ false → Sound q
   made-sound e = parts-sound q (resolved-parts (decBlock b) (sound-parts (decBlock b) (t-block b .yes s .state)) h e)
 
-  opened-sound : finding q ≡ 0 → Sound q
+  pub opened-sound : finding q ≡ 0 → Sound q
   opened-sound z =
       made-sound
       (none-found (resolved (decBlock b) h .store .full) (resolved (decBlock b) h .store .overflow or outOfHandles? (decBlock b)) (sym (parts-finding b (decBlock b .threads) (resolved (decBlock b) h .store)) ∙ z) .0)

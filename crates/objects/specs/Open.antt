@@ -1,6 +1,6 @@
 -- What opening a handle leaves in the block b, from the state k on; e is the block afterwards. Assumes nothing.
 use mathlib.Core.Path.{_≡_}
-use mathlib.Core.Bool.{Bool, true, false}
+use mathlib.Core.Bool.{Bool, true, false, not}
 use mathlib.Core.List.{List}
 use mathlib.Core.Logic.{_≢_}
 use Prim.Native.Nat.{ℕ}
@@ -10,8 +10,10 @@ use Rattle.types.specs.declared.object.ObjectStore.{ObjectStore}
 use Rattle.types.specs.declared.thread.ThreadOption.{ThreadOption}
 use Rattle.types.specs.declared.thread.ThreadOption.the-variants.{NoThread, SomeThread}
 use Rattle.types.specs.declared.kernel.Kernel.{Kernel}
+use Rattle.types.specs.Thread.{threadFlag}
 use Rattle.sound.specs.Objects.{keptAt}
 use Rattle.object.specs.declared.kept.Resolved.{Resolved}
+use Rattle.object.specs.Handles.{objectOf}
 use Rattle.object.specs.Kept.{processObject}
 use Rattle.svc.specs.Call.{withObjects, resolved}
 use Rattle.lent.specs.Operations.{finding, outOfHandles?}
@@ -43,6 +45,9 @@ abbrev pub noRoom : Kernel → ℕ → Bool
 noRoom k h = eqb (k .objects .free) 0 and makes k h
 
 -- whether a handle names an object once it is open, with a slot for one that is to be made
+abbrev pub named : Kernel → ℕ → Bool
+named k h = pick (eqb h 0xFFFF8000) (not (eqb (threadFlag (k .«current_thread»)) 0)) (pick (eqb h 0xFFFF8001) true (not (eqb (objectOf (k .handles) h) 0)))
+
 pub record Names (k : Kernel) (h : ℕ) (r : Bool) : Type 0 where
   pub none : r ≡ false → resolved k h ≡ record { object = record { 0 = 0 }; store = k .objects }
   pub some : r ≡ true → noRoom k h ≡ false → resolved k h .object .0 ≢ 0

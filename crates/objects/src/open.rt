@@ -20,7 +20,8 @@ ghost use Rattle.object.specs.Kept.{ofCurrent};
 ghost use Rattle.svc.specs.Call.{withObjects, resolved};
 ghost use Rattle.lent.specs.Operations.{finding};
 ghost use Rattle.rows.specs.Holds.{Holds};
-ghost use Rattle.objects.specs.Open.{Opens, ofProcess, makesCurrent, noRoom, Names, foundMaking};
+ghost use Rattle.objects.specs.Open.{Opens, ofProcess, makesCurrent, noRoom, named, foundMaking};
+ghost use Rattle.objects.specs.Open as def;
 
 // The object, 0 if there is none, and what questions 7 and 8 found, 0 for nothing.
 pub struct Opened {
@@ -184,14 +185,11 @@ fn makes_current(block: &[u8], current: ThreadOption) -> bool
     }
 }
 
-// The object of the handle would have to be made, and no slot is free. For a call that writes before it opens the handle.
-pub fn no_room(block: &[u8], h: u32) -> bool
+// The object of the handle is yet to be made.
+pub fn makes(block: &[u8], h: u32) -> bool
     requires { ⌜ length (now block) ≡ 16384 ⌝ }
-    ensures { λ r. ⌜ r ≡ noRoom (decBlock (now (block .entry))) h ⌝ }
+    ensures { λ r. ⌜ r ≡ def.makes (decBlock (now (block .entry))) h ⌝ }
 {
-    if codec::get32(block, 32) != 0 {
-        return false;
-    }
     if h == 0xFFFF8000 {
         let current = read::current(block);
         return makes_current(block, current);
@@ -202,11 +200,21 @@ pub fn no_room(block: &[u8], h: u32) -> bool
     false
 }
 
+// It is, and no slot is free. For a call that writes before it opens the handle.
+pub fn no_room(block: &[u8], h: u32) -> bool
+    requires { ⌜ length (now block) ≡ 16384 ⌝ }
+    ensures { λ r. ⌜ r ≡ noRoom (decBlock (now (block .entry))) h ⌝ }
+{
+    if codec::get32(block, 32) != 0 {
+        return false;
+    }
+    makes(block, h)
+}
+
 // Whether the handle names an object once it is open.
 pub fn names(block: &[u8], h: u32) -> bool
     requires { ⌜ length (now block) ≡ 16384 ⌝ }
-    requires { ⌜ sound? (now block) ≡ true ⌝ }
-    ensures { λ r. ⌜ Names (decBlock (now (block .entry))) h r ⌝ }
+    ensures { λ r. ⌜ r ≡ named (decBlock (now (block .entry))) h ⌝ }
 {
     if h == 0xFFFF8000 {
         let current = read::current(block);

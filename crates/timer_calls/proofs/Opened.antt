@@ -36,6 +36,10 @@ caught-as s ts tick = go (timerDue tick (s .slots)) _ _
     go true l v = refl
     go false l v = refl
 
+pub caught-full : (b : List ℕ) (tick : ℕ) → caughtUp (decBlock b) tick .objects .full ≡ false
+unfolding decBlock
+caught-full b tick = ap (λ (s : ObjectStore). s .full) (caught-as (decBlock b .objects) (decBlock b .threads) tick)
+
 makes-slots : (s : ObjectStore) (l : List Slot) (v : Bool) (c : ThreadOption) → makesCurrent (withOverflow (withSlots s l) v) c ≡ makesCurrent s c
 makes-slots s l v NoThread = refl
 makes-slots s l v (SomeThread t) = refl
@@ -50,17 +54,13 @@ module _ (b : List ℕ) (h tick : ℕ) where
   abbrev caught : Kernel
   caught = caughtUp k tick
 
-  none-full : caught .objects .full ≡ false
-  unfolding decBlock
-  none-full = ap (λ (s : ObjectStore). s .full) (caught-as (k .objects) (k .threads) tick)
-
   same-room : noRoom caught h ≡ noRoom k h
   same-room = ap (λ (s : ObjectStore). noRoom (withObjects k s) h) (caught-as (k .objects) (k .threads) tick) ∙ room-slots k _ _ h
 
   pub caught-finding : finding (withObjects caught (resolved caught h .store)) ≡ foundOf (noRoom k h) (caught .objects .overflow or outOfHandles? k)
   caught-finding =
       parts-finding b (k .threads) (resolved caught h .store)
-      ∙ (λ i. foundOf ((resolved-full caught h none-full ∙ same-room) i) (resolve-overflow (caught .«current_thread») (caught .handles) (caught .objects) h i or outOfHandles? k))
+      ∙ (λ i. foundOf ((resolved-full caught h (caught-full b tick) ∙ same-room) i) (resolve-overflow (caught .«current_thread») (caught .handles) (caught .objects) h i or outOfHandles? k))
 
   pub caught-fits : foundOf (noRoom k h) (caught .objects .overflow or outOfHandles? k) ≡ 0 → caught .objects .overflow ≡ false
   caught-fits z = or-false (caught .objects .overflow) (outOfHandles? k) (none-found (noRoom k h) (caught .objects .overflow or outOfHandles? k) z .1) .0

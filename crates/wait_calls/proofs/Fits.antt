@@ -7,9 +7,8 @@ use Prim.Native.Nat.{ℕ, zero, suc}
 use lib.Dec.{eqb}
 use lib.ListN.{take, getD}
 use Rattle.laws.specs.Logic.{pick, _or_, or-false}
-use Rattle.types.specs.declared.thread.ThreadOption.{ThreadOption}
-use Rattle.types.specs.declared.thread.ThreadOption.the-variants.{NoThread, SomeThread}
-use Rattle.types.specs.declared.thread.WaitSyscall.the-variants.{WaitSynchronization1, WaitSynchronizationN}
+use Rattle.types.specs.declared.thread.ThreadOption.the-variants.{SomeThread}
+use Rattle.types.specs.declared.thread.WaitSyscall.the-variants.{WaitSynchronizationN}
 use Rattle.units.specs.declared.ObjectId.{ObjectId}
 use Rattle.types.specs.declared.object.ObjectStore.{ObjectStore}
 use Rattle.types.specs.declared.kernel.Kernel.{Kernel}
@@ -18,33 +17,28 @@ use Rattle.sound.specs.View.{ids, slotAt, objectAt}
 use Rattle.object.specs.Slots.{content}
 use Rattle.pass.specs.declared.IndexOption.{IndexOption}
 use Rattle.pass.specs.declared.IndexOption.the-variants.{NoIndex, SomeIndex}
-use Rattle.pass.specs.Asks.{padded}
-use Rattle.pass.specs.Signal.{isSignaled, acquireOver, acquire, acquires}
+use Rattle.pass.specs.Signal.{acquireOver, acquire, acquires}
 use Rattle.svc.specs.declared.Served.{Served}
-use Rattle.svc.specs.Call.{done, answers, withObjects}
-use Rattle.svc.specs.Waits.{waitOn, waitUnless, wait1As}
+use Rattle.svc.specs.Call.{answers, withObjects}
 use Rattle.lent.specs.Operations.{finding, outOfHandles?}
 use Rattle.outcome.specs.declared.Outcome.{Outcome}
 use Rattle.outcome.specs.Outcome.{outcome, left, left-0}
+use Rattle.outcome.specs.Findings.{pick-finding}
 use Rattle.blocking.specs.Waits.{waitOnIn, takeIn}
 use Rattle.timer_calls.specs.Caught.{Caught}
 use Rattle.timer_calls.proofs.Found.{down, nothing-found}
 use Rattle.wait_calls.specs.Over.{anyOver, listOver}
 use Rattle.wait_calls.proofs.Counts.{counts, caught-counts, over-same, acquires-over, acquires-slots}
-use Rattle.wait_calls.proofs.Begins.{begun-finding}
+use Rattle.wait_calls.proofs.Begins.{begun-none}
 
 -- with nothing found, what a call leaves does not hang on the block before
-pub moves : (b e : List ℕ) (o : Outcome) (x : List ℕ) (v w : Served) → w ≡ v → finding (v .kernel) ≡ 0 → o ≡ outcome v → x ≡ left v e → (o ≡ outcome w) × (x ≡ left w b)
-moves b e o x v w q z p r = rw q (p, r ∙ left-0 v e z ∙ sym (left-0 v b z))
+pub moves : (b e : List ℕ) (o : Outcome) (x : List ℕ) (v w : Served) → v ≡ w → finding (w .kernel) ≡ 0 → o ≡ outcome v → x ≡ left v e → (o ≡ outcome w) × (x ≡ left w b)
+moves b e o x v w q z p r = (p ∙ ap outcome q, r ∙ ap (λ (u : Served). left u e) q ∙ left-0 w e z ∙ sym (left-0 w b z))
 
 -- the same where the block before is the same
 pub moves-or : (b e : List ℕ) (o : Outcome) (x : List ℕ) (v w : Served) → w ≡ v → (e ≡ b) ⊎ (finding (v .kernel) ≡ 0) → o ≡ outcome v → x ≡ left v e → (o ≡ outcome w) × (x ≡ left w b)
 moves-or b e o x v w q (inl s) p r = rw q (p, r ∙ ap (left v) s)
-moves-or b e o x v w q (inr z) p r = moves b e o x v w q z p r
-
-pub found-pick : (t : Bool) (v w : Served) → finding (v .kernel) ≡ 0 → finding (w .kernel) ≡ 0 → finding (pick t v w .kernel) ≡ 0
-found-pick true v w p q = p
-found-pick false v w p q = q
+moves-or b e o x v w q (inr z) p r = moves b e o x v w (sym q) (ap (λ (u : Served). finding (u .kernel)) q ∙ z) p r
 
 module _ (b : List ℕ) (n : outOfHandles? (decBlock b) ≡ false) where
   abbrev k : Kernel
@@ -53,16 +47,9 @@ module _ (b : List ℕ) (n : outOfHandles? (decBlock b) ≡ false) where
   pub same-found : finding k ≡ 0
   same-found = nothing-found b n (k .threads) (k .objects) (down b .0) (down b .1)
 
-  pub taken-found : (o w : ℕ) → acquireOver (objectAt (k .objects) o) ≡ false → finding (withObjects k (acquire (k .objects) o w)) ≡ 0
+  taken-found : (o w : ℕ) → acquireOver (objectAt (k .objects) o) ≡ false → finding (withObjects k (acquire (k .objects) o w)) ≡ 0
   unfolding acquire content _or_
   taken-found o w v = nothing-found b n (k .threads) (acquire (k .objects) o w) (down b .0) (λ i. down b .1 i or v i)
-
-  pub wait1-found : (t : ThreadOption) → k .«current_thread» ≡ t → (o nanos tick : ℕ) → acquireOver (objectAt (k .objects) o) ≡ false → finding (wait1As t k o nanos tick .kernel) ≡ 0
-  wait1-found NoThread e o nanos tick v = same-found
-  wait1-found (SomeThread c) e o nanos tick v =
-      let w = waitUnless k c (o ∷ []) false nanos tick WaitSynchronization1 in
-      found-pick (isSignaled (k .threads) (objectAt (k .objects) o) c) (done (withObjects k (acquire (k .objects) o c))) w (taken-found o c v)
-      (found-pick (eqb nanos 0) (answers 17 k) (waitOn k c (o ∷ []) false nanos tick WaitSynchronization1) same-found (begun-finding b n c (padded 8 (o ∷ [])) 1 false nanos tick WaitSynchronization1 e))
 
   -- ---- a list
   any-at : (os : List ℕ) (i : ℕ) → anyOver (k .objects) os ≡ false → acquireOver (objectAt (k .objects) (getD os i 0)) ≡ false
@@ -80,7 +67,7 @@ module _ (b : List ℕ) (n : outOfHandles? (decBlock b) ≡ false) where
 
   pub waitN-found : (f : IndexOption) (c : ℕ) (l : List ObjectId) (m : ℕ) (all : Bool) (nanos tick : ℕ) → k .«current_thread» ≡ SomeThread c → listOver (k .objects) (take m (ids l)) all ≡ false → finding (takeIn f k c l m all nanos tick .kernel) ≡ 0
   waitN-found NoIndex c l m all nanos tick e v =
-      found-pick (eqb nanos 0) (answers 17 k) (waitOnIn k c l m all nanos tick WaitSynchronizationN) same-found (begun-finding b n c l m all nanos tick WaitSynchronizationN e)
+      pick-finding (eqb nanos 0) 0 (answers 17 k) (waitOnIn k c l m all nanos tick WaitSynchronizationN) same-found (begun-none b n c l m all nanos tick WaitSynchronizationN e)
   waitN-found (SomeIndex i) c l m all nanos tick e v = list-found all (take m (ids l)) i c v
 
 -- ---- the same before the timers are caught up with

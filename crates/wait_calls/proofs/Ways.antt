@@ -1,39 +1,43 @@
 -- `wait_synchronization1` by the code's cases. Assumes nothing.
-use mathlib.Core.Path.{_≡_, refl, sym, ap, _∙_}
+use mathlib.Core.Path.{_≡_, refl, sym, ap, subst, _∙_}
 use mathlib.Core.Bool.{Bool, true, false}
 use mathlib.Core.List.{List}
 use mathlib.Core.Logic.{_≢_}
 use Prim.Native.Nat.{ℕ}
-use lib.Dec.{eqb}
 use borrow.Author.Tests.{eq-eqb, ne-eqb}
-use Rattle.laws.specs.Logic.{pick}
+use Rattle.laws.specs.Logic.{_or_, or-true, or-end, or-false}
 use Rattle.types.specs.declared.thread.ThreadOption.{ThreadOption}
 use Rattle.types.specs.declared.thread.ThreadOption.the-variants.{SomeThread}
+use Rattle.types.specs.declared.object.ObjectStore.{ObjectStore}
 use Rattle.types.specs.declared.kernel.Kernel.{Kernel}
 use Rattle.types.specs.Thread.{threadFlag, threadValue}
 use Rattle.block.specs.Block.{encBlock, decBlock}
 use Rattle.sound.specs.View.{objectAt}
-use Rattle.sound.specs.Question.{sound?}
+use Rattle.sound.specs.Objects.{KeptOk}
+use Rattle.sound.specs.Question.{sound?, t-block}
 use Rattle.object.specs.declared.kept.Resolved.{Resolved}
 use Rattle.object.specs.Handles.{objectOf}
 use Rattle.pass.specs.Asks.{pseudo}
-use Rattle.pass.specs.Signal.{acquireOver}
 use Rattle.svc.specs.declared.Registers.{Registers}
 use Rattle.svc.specs.declared.Served.{Served}
-use Rattle.svc.specs.Call.{done, answers, withObjects, pair}
+use Rattle.svc.specs.Call.{done, answers, withObjects, pair, resolved}
 use Rattle.svc.specs.Timers.{caughtUp}
 use Rattle.svc.specs.Waits.{wait1As, waitSynchronization1}
 use Rattle.lent.specs.Operations.{finding, outOfHandles?}
 use Rattle.outcome.specs.declared.Outcome.{Outcome}
-use Rattle.outcome.specs.Outcome.{accepted, outcome, left}
+use Rattle.outcome.specs.Outcome.{accepted, refused, outcome, left, outcome-found, left-found}
+use Rattle.outcome.specs.Findings.{foundOf, none-found, parts-finding}
 use Rattle.rows.specs.Holds.{holds}
 use Rattle.rows.specs.Current.{some-thread, no-thread}
 use Rattle.svc.proofs.Handles.{plain}
+use Rattle.objects.specs.declared.open.Opened.{Opened}
+use Rattle.objects.specs.Open.{Opens}
 use Rattle.timer_calls.proofs.Found.{leaves}
-use Rattle.timer_calls.specs.Caught.{Caught}
-use Rattle.wait_calls.specs.Named.{wait1Named, wait1-is}
-use Rattle.wait_calls.proofs.Counts.{caught-counts, over-same}
-use Rattle.wait_calls.proofs.Fits.{found-pick, same-found, wait1-found}
+use Rattle.timer_calls.proofs.Opened.{caught-full}
+use Rattle.wait_calls.specs.Named.{wait1Opened, wait1-is}
+use Rattle.wait_calls.specs.Over.{overNow}
+use Rattle.wait_calls.proofs.Fits.{same-found}
+use Rattle.wait_calls.proofs.Now.{over-caught, over-pseudo, wait1-finding}
 
 -- a call that leaves the state as it is, or as it is when the timers of b have fired, in e
 pub rests : (b e : List ℕ) → sound? e ≡ true → outOfHandles? (decBlock e) ≡ false → (o : Outcome) (v w : Served) → v .kernel ≡ decBlock e → v ≡ w → o ≡ accepted v → (o ≡ outcome w) × (e ≡ left w b)
@@ -43,41 +47,97 @@ rests b e s n o v w k q p =
 pub stays : (b : List ℕ) → sound? b ≡ true → outOfHandles? (decBlock b) ≡ false → (o : Outcome) (v w : Served) → v .kernel ≡ decBlock b → v ≡ w → o ≡ accepted v → (o ≡ outcome w) × (b ≡ left w b)
 stays b s n o v w k q p = rests b b s n o v w k q p
 
-module _ (b : List ℕ) (r : Registers) (tick : ℕ) (p : pseudo (r .r0) ≡ false) (o : ℕ) (eo : o ≡ objectOf (decBlock b .handles) (r .r0)) where
-  abbrev k : Kernel
-  k = decBlock b
+-- a call that finds something
+pub refuses : (b : List ℕ) (o : Outcome) (n : ℕ) (v : Served) → o ≡ refused n → finding (v .kernel) ≡ n → n ≢ 0 → (o ≡ outcome v) × (b ≡ left v b)
+refuses b o n v p e z = (p ∙ sym (outcome-found v n e z), sym (left-found v b (λ w. z (sym e ∙ w))))
 
+-- more that is found makes no difference
+found-more : (f v w o : Bool) → foundOf f (v or o) ≢ 0 → foundOf f ((v or w) or o) ≡ foundOf f (v or o)
+unfolding _or_
+found-more true v w o z = refl
+found-more false true w o z = refl
+found-more false false true true z = refl
+found-more false false true false z = absurd (z refl)
+found-more false false false o z = refl
+
+-- the handles are those before
+pub same-handles : (q k : Kernel) (s : ObjectStore) → q ≡ withObjects k s → outOfHandles? k ≡ false → outOfHandles? q ≡ false
+unfolding outOfHandles?
+same-handles q k s e h = ap outOfHandles? e ∙ h
+
+-- ---- the handle names o in the state k
+module _ (k : Kernel) (o : ℕ) (r : Registers) (tick : ℕ) where
   abbrev wait : ThreadOption → Served
   wait t = wait1As t k o (pair (r .r2) (r .r3)) tick
 
-  named : pick (eqb o 0) (answers 16 k) (wait (k .«current_thread»)) ≡ wait1Named k r tick
-  named =
-      ap (λ (m : ℕ). pick (eqb m 0) (answers 16 k) (wait1As (k .«current_thread») k m (pair (r .r2) (r .r3)) tick)) eo
-      ∙ ap (λ (y : Resolved). pick (eqb (y .object .0) 0) (answers 16 (withObjects k (y .store))) (wait1As (k .«current_thread») (withObjects k (y .store)) (y .object .0) (pair (r .r2) (r .r3)) tick))
-      (sym (plain (k .«current_thread») (k .handles) (k .objects) (r .r0) p))
+  pub unknown : o ≡ 0 → answers 16 k ≡ wait1Opened k o r tick
+  unknown z = rw (eq-eqb o 0 z)
 
-  pub unknown : o ≡ 0 → answers 16 k ≡ wait1Named k r tick
-  unknown z = rw (eq-eqb o 0 z) at named
+  pub nobody : o ≢ 0 → threadFlag (k .«current_thread») ≡ 0 → done k ≡ wait1Opened k o r tick
+  nobody z f = rw (ne-eqb o 0 z) (ap wait (sym (no-thread (k .«current_thread») f)))
 
-  pub nobody : o ≢ 0 → threadFlag (k .«current_thread») ≡ 0 → done k ≡ wait1Named k r tick
-  nobody z f = ap wait (sym (no-thread (k .«current_thread») f)) ∙ rw (ne-eqb o 0 z) at named
+  pub waits : o ≢ 0 → threadFlag (k .«current_thread») ≢ 0 → wait (SomeThread (threadValue (k .«current_thread»))) ≡ wait1Opened k o r tick
+  waits z f = rw (ne-eqb o 0 z) (ap wait (sym (some-thread (k .«current_thread») f)))
 
-  pub waits : o ≢ 0 → threadFlag (k .«current_thread») ≢ 0 → wait (SomeThread (threadValue (k .«current_thread»))) ≡ wait1Named k r tick
-  waits z f = ap wait (sym (some-thread (k .«current_thread») f)) ∙ rw (ne-eqb o 0 z) at named
+-- ---- the whole call, on the block b
+module _ (b : List ℕ) (r : Registers) (tick : ℕ) where
+  abbrev j : Kernel
+  j = decBlock b
 
-  pub named-found : outOfHandles? k ≡ false → acquireOver (objectAt (k .objects) o) ≡ false → finding (wait1Named k r tick .kernel) ≡ 0
-  named-found n v = ap (λ (w : Served). finding (w .kernel)) (sym named) ∙ found-pick (eqb o 0) (answers 16 k) (wait (k .«current_thread»)) (same-found b n) (wait1-found b n (k .«current_thread») refl o (pair (r .r2) (r .r3)) tick v)
+  abbrev caught : Kernel
+  caught = caughtUp j tick
 
--- the block b with its timers caught up with, e
-module _ (b e : List ℕ) (tick : ℕ) (done? : Bool) (g : Caught b e tick done?) (t : done? ≡ true) where
-  pub caught-objects : (h o : ℕ) → o ≡ objectOf (decBlock b .handles) h → o ≡ objectOf (decBlock e .handles) h
-  caught-objects h o q = q ∙ ap (λ (z : Kernel). objectOf (z .handles) h) (sym (g .state t))
+  abbrev call : Served
+  call = waitSynchronization1 j r tick
 
-  pub caught-over : (o : ℕ) → acquireOver (objectAt (decBlock b .objects) o) ≡ false → acquireOver (objectAt (decBlock e .objects) o) ≡ false
-  caught-over o v =
-      let k = decBlock b in
-      ap (λ (z : Kernel). acquireOver (objectAt (z .objects) o)) (g .state t)
-      ∙ over-same (caughtUp k tick .objects) (k .objects) (caught-counts (k .objects) (k .threads) tick) o ∙ v
+  abbrev over : ObjectStore → ℕ → Bool
+  over s o = overNow (j .«current_thread») (j .threads) (objectAt s o)
 
-  pub caught-named : (r : Registers) → waitSynchronization1 (decBlock b) r tick ≡ wait1Named (decBlock e) r tick
-  caught-named r = wait1-is (decBlock b) r tick ∙ ap (λ (z : Kernel). wait1Named z r tick) (sym (g .state t))
+  -- an ordinary handle, which names o
+  module _ (p : pseudo (r .r0) ≡ false) (o : ℕ) (eo : o ≡ objectOf (j .handles) (r .r0)) where
+    pub plain-is : wait1Opened caught o r tick ≡ call
+    plain-is =
+        ap (λ (m : ℕ). wait1Opened caught m r tick) eo
+        ∙ ap (λ (y : Resolved). wait1Opened (withObjects caught (y .store)) (y .object .0) r tick) (sym (plain (caught .«current_thread») (caught .handles) (caught .objects) (r .r0) p)) ∙ sym (wait1-is j r tick)
+
+    plain-finding : finding (call .kernel) ≡ foundOf false ((caught .objects .overflow or over (j .objects) o) or outOfHandles? j)
+    plain-finding =
+        ap (λ (v : Served). finding (v .kernel)) (sym plain-is) ∙ wait1-finding b (caught .objects) o r tick
+        ∙ (λ i. foundOf (caught-full b tick i) ((caught .objects .overflow or over-caught (j .«current_thread») (j .threads) (j .objects) tick o i) or outOfHandles? j))
+
+    pub plain-over : over (j .objects) o ≡ true → finding (call .kernel) ≡ 8
+    unfolding _or_
+    plain-over e = plain-finding ∙ ap (λ (v : Bool). foundOf false ((caught .objects .overflow or v) or outOfHandles? j)) e ∙ ap (λ (v : Bool). foundOf false (v or outOfHandles? j)) (or-true (caught .objects .overflow))
+
+    pub plain-found : over (j .objects) o ≡ false → finding (call .kernel) ≡ foundOf false (caught .objects .overflow or outOfHandles? j)
+    plain-found e = plain-finding ∙ ap (λ (v : Bool). foundOf false ((caught .objects .overflow or v) or outOfHandles? j)) e ∙ ap (λ (v : Bool). foundOf false (v or outOfHandles? j)) (or-end (caught .objects .overflow))
+
+  -- a pseudo-handle, opened in the block e
+  module _ (p : pseudo (r .r0) ≡ true) (e : List ℕ) (a : Opened) (g : Opens caught (resolved caught (r .r0)) b e a) where
+    abbrev x : Resolved
+    x = resolved caught (r .r0)
+
+    opened-finding : a .found ≡ foundOf (x .store .full) (x .store .overflow or outOfHandles? j)
+    opened-finding = g .found ∙ parts-finding b (j .threads) (x .store)
+
+    pseudo-finding : finding (call .kernel) ≡ foundOf (x .store .full) ((x .store .overflow or over (x .store) (x .object .0)) or outOfHandles? j)
+    pseudo-finding = ap (λ (v : Served). finding (v .kernel)) (wait1-is j r tick) ∙ wait1-finding b (x .store) (x .object .0) r tick
+
+    pub pseudo-refused : a .found ≢ 0 → finding (call .kernel) ≡ a .found
+    pseudo-refused z = pseudo-finding ∙ found-more (x .store .full) (x .store .overflow) (over (x .store) (x .object .0)) (outOfHandles? j) (λ w. z (opened-finding ∙ w)) ∙ sym opened-finding
+
+    module _ (z : a .found ≡ 0) (s : sound? e ≡ true) (q : decBlock e ≡ withObjects caught (x .store)) where
+      kept : KeptOk (x .store)
+      kept = subst (λ (k : Kernel). KeptOk (k .objects)) q (t-block e .yes s .state .kept)
+
+      pub pseudo-none : finding (call .kernel) ≡ 0
+      pseudo-none =
+          pseudo-finding
+          ∙ ap (λ (v : Bool). foundOf (x .store .full) ((x .store .overflow or v) or outOfHandles? j)) (over-pseudo (j .«current_thread») (j .threads) caught (r .r0) p kept)
+          ∙ ap (λ (v : Bool). foundOf (x .store .full) (v or outOfHandles? j)) (or-end (x .store .overflow)) ∙ sym opened-finding ∙ z
+
+      pub pseudo-handles : outOfHandles? (decBlock e) ≡ false
+      pseudo-handles = same-handles (decBlock e) j (x .store) q (or-false (x .store .overflow) (outOfHandles? j) (none-found (x .store .full) _ (sym opened-finding ∙ z) .1) .1)
+
+      pub pseudo-is : (o : ℕ) → o ≡ x .object .0 → wait1Opened (decBlock e) o r tick ≡ call
+      pseudo-is o eo = (λ i. wait1Opened (q i) (eo i) r tick) ∙ sym (wait1-is j r tick)

@@ -1,7 +1,6 @@
 // `wait_synchronization1` (svc.rs).
 use crate::begin_wait;
 use crate::take;
-use blocking::waits;
 use outcome::Outcome;
 use rows::read;
 use svc::Registers;
@@ -15,12 +14,11 @@ ghost use mathlib.Core.Bool.{true, false};
 ghost use lib.ListN.{length};
 ghost use Rattle.block.specs.Block.{decBlock};
 ghost use Rattle.sound.specs.Question.{sound?};
-ghost use Rattle.object.specs.Handles.{objectOf};
 ghost use Rattle.pass.specs.Asks.{pseudo};
 ghost use Rattle.svc.specs.Waits as def;
 ghost use Rattle.lent.specs.Operations.{outOfHandles?};
 ghost use Rattle.outcome.specs.Outcome.{outcome, left};
-ghost use Rattle.wait_calls.specs.Named.{wait1Named};
+ghost use Rattle.wait_calls.specs.Named.{wait1Opened};
 
 // A time-out of 0 does not wait.
 fn wait_one(block: &mut [u8], c: u32, o: ObjectId, nanos: u64, tick: u64) -> Outcome
@@ -59,15 +57,13 @@ fn wait_one(block: &mut [u8], c: u32, o: ObjectId, nanos: u64, tick: u64) -> Out
     outcome::silent()
 }
 
-// The call once the timers have fired; the handle names o.
-fn wait_named(block: &mut [u8], r: Registers, o: ObjectId, tick: u64) -> Outcome
+// The call once the timers have fired and the handle is open: it names o.
+fn wait_opened(block: &mut [u8], r: Registers, o: ObjectId, tick: u64) -> Outcome
     requires { ⌜ length (now block) ≡ 16384 ⌝ }
     requires { ⌜ sound? (now block) ≡ true ⌝ }
     requires { ⌜ outOfHandles? (decBlock (now block)) ≡ false ⌝ }
-    requires { ⌜ pseudo (r .r0) ≡ false ⌝ }
-    requires { ⌜ o .0 ≡ objectOf (decBlock (now block) .handles) (r .r0) ⌝ }
-    ensures { λ v. ⌜ v ≡ outcome (wait1Named (decBlock (now (block .entry))) r tick) ⌝ }
-    ensures { λ _. ⌜ now (block .exit) ≡ left (wait1Named (decBlock (now (block .entry))) r tick) (now (block .entry)) ⌝ }
+    ensures { λ v. ⌜ v ≡ outcome (wait1Opened (decBlock (now (block .entry))) (o .0) r tick) ⌝ }
+    ensures { λ _. ⌜ now (block .exit) ≡ left (wait1Opened (decBlock (now (block .entry))) (o .0) r tick) (now (block .entry)) ⌝ }
 {
     if o.0 == 0 {
         return outcome::answers(16);
@@ -81,29 +77,42 @@ fn wait_named(block: &mut [u8], r: Registers, o: ObjectId, tick: u64) -> Outcome
     wait_one(block, c, o, nanos, tick)
 }
 
-fn by_value(block: &mut [u8], r: Registers, tick: u64) -> Outcome
+// A pseudo-handle names a thread or the process, of which a wait finds nothing; its object may have to be made.
+fn wait_pseudo(block: &mut [u8], r: Registers, tick: u64) -> Outcome
     requires { ⌜ length (now block) ≡ 16384 ⌝ }
+    requires { ⌜ sound? (now block) ≡ true ⌝ }
+    requires { ⌜ pseudo (r .r0) ≡ true ⌝ }
     ensures { λ o. ⌜ o ≡ outcome (def.waitSynchronization1 (decBlock (now (block .entry))) r tick) ⌝ }
     ensures { λ _. ⌜ now (block .exit) ≡ left (def.waitSynchronization1 (decBlock (now (block .entry))) r tick) (now (block .entry)) ⌝ }
 {
-    let k = block::decode(block);
-    outcome::finish(block, waits::wait_synchronization1(k, r, tick))
+    let a = caught::open_caught(block, r.r0, tick);
+    if a.found != 0 {
+        return outcome::refused(a.found);
+    }
+    let o = a.object;
+    wait_opened(block, r, o, tick)
 }
 
-// r0 handle, r2 and r3 nanoseconds. What the wait may find of the object is looked for before the timers fire, since a
-// finding must leave the block as it was; then it goes by value, and so does a pseudo-handle: its object may have to be made.
+// r0 handle, r2 and r3 nanoseconds. What the wait finds of the object is looked for before the timers fire, since a finding
+// must leave the block as it was; a timer that fires changes no mutex and no semaphore.
 pub fn wait_synchronization1(block: &mut [u8], r: Registers, tick: u64) -> Outcome
     requires { ⌜ length (now block) ≡ 16384 ⌝ }
     requires { ⌜ sound? (now block) ≡ true ⌝ }
     ensures { λ o. ⌜ o ≡ outcome (def.waitSynchronization1 (decBlock (now (block .entry))) r tick) ⌝ }
     ensures { λ _. ⌜ now (block .exit) ≡ left (def.waitSynchronization1 (decBlock (now (block .entry))) r tick) (now (block .entry)) ⌝ }
 {
+    if svc::read::is_pseudo(r.r0) {
+        return wait_pseudo(block, r, tick);
+    }
     let o = read::object_of(block, r.r0);
-    if take::over(block, o) {
-        return by_value(block, r, tick);
+    if take::over_now(block, o) {
+        return outcome::refused(8);
     }
-    if !caught::ready(block, r.r0, tick) {
-        return by_value(block, r, tick);
+    let fires = due::timer_due(block, tick);
+    let found = caught::found_before(block, false, fires, tick);
+    if found != 0 {
+        return outcome::refused(found);
     }
-    wait_named(block, r, o, tick)
+    caught::catch_up_if(block, fires, tick);
+    wait_opened(block, r, o, tick)
 }

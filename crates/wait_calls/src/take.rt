@@ -1,4 +1,5 @@
 // What a wait that succeeds takes of an object.
+use crate::look;
 use rows::read;
 use rows::write;
 use units::ObjectId;
@@ -12,6 +13,7 @@ ghost use Rattle.pass.specs.Signal.{acquire, acquireOver};
 ghost use Rattle.svc.specs.Call.{done, withObjects};
 ghost use Rattle.lent.specs.Operations.{finding, outOfHandles?};
 ghost use Rattle.outcome.specs.Outcome.{left};
+ghost use Rattle.wait_calls.specs.Over.{overNow};
 
 // Whether a wait finds the count of an object too large to take of it.
 pub fn over(block: &[u8], o: ObjectId) -> bool
@@ -20,6 +22,23 @@ pub fn over(block: &[u8], o: ObjectId) -> bool
 {
     let x = read::slot_at(block, o.0);
     acquire::over_after(false, x)
+}
+
+// Whether a wait of the current thread succeeds and finds it so.
+pub fn over_now(block: &[u8], o: ObjectId) -> bool
+    requires { ⌜ length (now block) ≡ 16384 ⌝ }
+    ensures { λ r. ⌜ r ≡ overNow (decBlock (now (block .entry)) .«current_thread») (decBlock (now (block .entry)) .threads) (objectAt (decBlock (now (block .entry)) .objects) (o .0)) ⌝ }
+{
+    let x = read::slot_at(block, o.0);
+    if !acquire::over_after(false, x) {
+        return false;
+    }
+    let current = read::current(block);
+    if types::thread::thread_flag(current) == 0 {
+        return false;
+    }
+    let v = x.object;
+    look::signaled(block, v, types::thread::thread_value(current))
 }
 
 // What question 8 finds, 0 for nothing: the lock count of a mutex may not fit any more. Then the block stays as it is.

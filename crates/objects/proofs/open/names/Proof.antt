@@ -1,4 +1,4 @@
-use Rattle.objects.proofs.Names.{names-flag, names-process, names-plain}
+use borrow.Author.Tests.{eq-eqb, ne-eqb}
 use borrow.Author.Needs.{needs}
 use Rattle.objects.proofs.open.names.Statement.{statement}
 use Rattle.objects.proofs.open.names.Tie as tie
@@ -10,16 +10,16 @@ thread-flag-requires : tie.Need-thread-flag-requires
 thread-flag-requires c κs = search needs
 
 returns : tie.Need-returns
-returns c = names-flag (c .before .before .before .before .args .block .now) (c .before .before .before .before .pre .1) (c .before .before .before .before .args .h) (c .before .before .if1 .taken) (c .before .current .result) (c .before .current .ensures) (c .thread-flag .result) (c .thread-flag .ensures)
+returns c = rw (c .thread-flag .ensures, c .before .current .ensures, eq-eqb _ 0xFFFF8000 (c .before .before .if1 .taken))
 
 returns-2 : tie.Need-returns-2
-returns-2 c = names-process (c .before .before .before .args .block .now) (c .before .before .before .pre .1) (c .before .before .before .args .h) (c .before .if1 .left) (c .if2 .taken)
+returns-2 c = rw (ne-eqb _ 0xFFFF8000 (c .before .if1 .left), eq-eqb _ 0xFFFF8001 (c .if2 .taken))
 
 object-of-requires : tie.Need-object-of-requires
 object-of-requires c κs = search needs
 
 returns-3 : tie.Need-returns-3
-returns-3 c = names-plain (c .before .before .before .before .before .args .block .now) (c .before .before .before .before .before .pre .1) (c .before .before .before .before .before .args .h) (c .before .before .before .if1 .left) (c .before .before .if2 .left) (c .before .object-of .result .0) (c .before .object-of .ensures)
+returns-3 c = rw (ne-eqb _ 0xFFFF8000 (c .before .before .before .if1 .left), ne-eqb _ 0xFFFF8001 (c .before .before .if2 .left), c .before .object-of .ensures)
 
 pub names-spec : {M : Type 1} → statement M
 names-spec =

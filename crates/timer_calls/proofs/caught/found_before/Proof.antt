@@ -2,9 +2,6 @@ use borrow.Author.Needs.{needs}
 use Rattle.timer_calls.proofs.caught.found_before.Statement.{statement}
 use Rattle.timer_calls.proofs.caught.found_before.Tie as tie
 
-no-room-requires : tie.Need-no-room-requires
-no-room-requires c κs = search needs
-
 over-if-requires : tie.Need-over-if-requires
 over-if-requires c κs = search needs
 
@@ -18,15 +15,9 @@ found-of-requires : tie.Need-found-of-requires
 found-of-requires c κs = search needs
 
 returns : tie.Need-returns
-returns c = rw (c .found-of .ensures, c .before .before .before .before .no-room .ensures, c .before .either .ensures, c .before .before .before .over-if .ensures, c .before .before .out-of-handles .ensures)
+returns c = rw (c .found-of .ensures, c .before .either .ensures, c .before .before .before .over-if .ensures, c .before .before .out-of-handles .ensures)
 
 pub found-before-spec : {M : Type 1} → statement M
 found-before-spec =
     tie.close
-    (tie.spec
-    no-room-requires
-    over-if-requires
-    out-of-handles-requires
-    either-requires
-    found-of-requires
-    returns)
+    (tie.spec over-if-requires out-of-handles-requires either-requires found-of-requires returns)

@@ -5,7 +5,7 @@ use Rattle.block.specs.Block.{decBlock}
 use Rattle.svc.specs.Call.{answers}
 use Rattle.blocking.specs.Waits.{waitOnIn}
 use Rattle.timer_calls.proofs.Found.{leaves}
-use Rattle.wait_calls.proofs.Begins.{begun-finding}
+use Rattle.wait_calls.proofs.Begins.{begun-none}
 use Rattle.wait_calls.proofs.Ways.{stays}
 use borrow.Author.Needs.{needs}
 use Rattle.wait_calls.proofs.many.wait_at.Statement.{statement}
@@ -40,7 +40,7 @@ returns-2 : tie.Need-returns-2
 returns-2 c = let a = c .before .before .before .before .before .before .before .before .before .args in
     let v = waitOnIn (decBlock (a .block .now)) (a .c) (a .l) (a .n) (a .all) (a .nanos) (a .tick) WaitSynchronizationN in
     rw (c .before .before .before .before .before .before .enum-told .given .1, ne-eqb _ 0 (c .before .before .before .before .before .if1 .left))
-    (leaves (a .block .now) _ _ v v refl (begun-finding (a .block .now) (c .before .before .before .before .before .before .before .before .before .pre .1 .1 .0) (a .c) (a .l) (a .n) (a .all) (a .nanos) (a .tick) WaitSynchronizationN (c .before .before .before .before .before .before .before .before .before .pre .1 .1 .1)) (c .silent .ensures) (c .before .before .before .begin-wait .ensures))
+    (leaves (a .block .now) _ _ v v refl (begun-none (a .block .now) (c .before .before .before .before .before .before .before .before .before .pre .1 .1 .0) (a .c) (a .l) (a .n) (a .all) (a .nanos) (a .tick) WaitSynchronizationN (c .before .before .before .before .before .before .before .before .before .pre .1 .1 .1)) (c .silent .ensures) (c .before .before .before .begin-wait .ensures))
 
 same-length-2 : tie.Need-same-length-2
 same-length-2 c = search needs

@@ -11,7 +11,7 @@ use Rattle.svc.specs.Call.{answers}
 use Rattle.outcome.specs.Outcome.{outcome-0, outcome-found}
 use Rattle.blocking.specs.Waits.{waitOnIn}
 use Rattle.timer_calls.proofs.Found.{leaves}
-use Rattle.wait_calls.proofs.Begins.{begun-finding}
+use Rattle.wait_calls.proofs.Begins.{begun-none}
 use Rattle.wait_calls.proofs.Ways.{stays}
 use borrow.Author.Needs.{needs}
 use Rattle.wait_calls.proofs.one.wait_one.Statement.{statement}
@@ -75,7 +75,7 @@ returns-4 c = let sig = sym (c .before .before .before .before .before .before .
     let a = c .before .before .before .before .before .before .before .before .before .before .before .before .args in
     let v = waitOnIn (decBlock (a .block .now)) (a .c) (padded 8 (a .o .0 ∷ [])) 1 false (a .nanos) (a .tick) WaitSynchronization1 in
     rw (sig, ne-eqb _ 0 (c .before .before .before .before .before .if3 .left))
-    (leaves (a .block .now) _ _ v v refl (begun-finding (a .block .now) (c .before .before .before .before .before .before .before .before .before .before .before .before .pre .1 .1 .0) (a .c) (padded 8 (a .o .0 ∷ [])) 1 false (a .nanos) (a .tick) WaitSynchronization1 (c .before .before .before .before .before .before .before .before .before .before .before .before .pre .1 .1 .1)) (c .silent .ensures) (c .before .before .before .begin-wait .ensures))
+    (leaves (a .block .now) _ _ v v refl (begun-none (a .block .now) (c .before .before .before .before .before .before .before .before .before .before .before .before .pre .1 .1 .0) (a .c) (padded 8 (a .o .0 ∷ [])) 1 false (a .nanos) (a .tick) WaitSynchronization1 (c .before .before .before .before .before .before .before .before .before .before .before .before .pre .1 .1 .1)) (c .silent .ensures) (c .before .before .before .begin-wait .ensures))
 
 pub wait-one-spec : {M : Type 1} → statement M
 wait-one-spec =

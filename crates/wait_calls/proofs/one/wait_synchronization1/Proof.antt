@@ -1,19 +1,24 @@
-use mathlib.Core.Path.{refl, sym, _∙_}
-use borrow.Author.Tests.{not-true, not-false}
+use mathlib.Core.Path.{sym, ap, _∙_}
+use mathlib.Core.Bool.{false}
+use native.Mathlib.Omega.{arith}
+use Rattle.laws.specs.Logic.{or-false}
+use Rattle.types.specs.declared.kernel.Kernel.{Kernel}
+use Rattle.block.specs.Block.{decBlock}
+use Rattle.svc.specs.Timers.{caughtUp}
+use Rattle.lent.specs.Operations.{outOfHandles?}
+use Rattle.outcome.specs.Findings.{none-found}
+use Rattle.wait_calls.specs.Named.{wait1Opened}
 use Rattle.wait_calls.proofs.Fits.{moves}
-use Rattle.wait_calls.proofs.Ways.{named-found, caught-objects, caught-over, caught-named}
+use Rattle.wait_calls.proofs.Ways.{refuses, same-handles, plain-is, plain-over, plain-found}
 use borrow.Author.Needs.{needs}
 use Rattle.wait_calls.proofs.one.wait_synchronization1.Statement.{statement}
 use Rattle.wait_calls.proofs.one.wait_synchronization1.Tie as tie
 
-object-of-requires : tie.Need-object-of-requires
-object-of-requires c κs = search needs
+is-pseudo-requires : tie.Need-is-pseudo-requires
+is-pseudo-requires c κs = search needs
 
-over-requires : tie.Need-over-requires
-over-requires c κs = search needs
-
-by-value-requires : tie.Need-by-value-requires
-by-value-requires c κs = search needs
+wait-pseudo-requires : tie.Need-wait-pseudo-requires
+wait-pseudo-requires c κs = (c .before .before .before .before .pre .0, (c .before .before .before .before .pre .1, sym (c .before .before .is-pseudo .ensures) ∙ c .before .if1 .taken))
 
 same-length : tie.Need-same-length
 same-length c = search needs
@@ -21,50 +26,93 @@ same-length c = search needs
 returns : tie.Need-returns
 returns c = search needs
 
-ready-requires : tie.Need-ready-requires
-ready-requires c κs = search needs
+object-of-requires : tie.Need-object-of-requires
+object-of-requires c κs = search needs
 
-by-value-requires-2 : tie.Need-by-value-requires-2
-by-value-requires-2 c κs = search needs
+over-now-requires : tie.Need-over-now-requires
+over-now-requires c κs = search needs
+
+refused-requires : tie.Need-refused-requires
+refused-requires c κs = search needs
 
 same-length-2 : tie.Need-same-length-2
 same-length-2 c = search needs
 
 returns-2 : tie.Need-returns-2
-returns-2 c = let e = c .before .before .before .before .before .before .before .ready .ensures .0 .same (not-true _ (c .before .before .before .before .if2 .taken)) in
-    rw (c .before .before .by-value2 .ensures .0, c .before .before .by-value2 .ensures .1, e) (refl, refl)
+returns-2 c =
+    let a = c .before .before .before .before .before .before .before .before .before .args in
+    let b = a .block .now in
+    let p = sym (c .before .before .before .before .before .before .before .is-pseudo .ensures) ∙ c .before .before .before .before .before .before .if1 .left in
+    let o = c .before .before .before .before .object-of .result .0 in
+    refuses b _ 8 _ (c .refused .ensures) (plain-over b (a .r) (a .tick) p o (c .before .before .before .before .object-of .ensures) (sym (c .before .before .over-now .ensures) ∙ c .before .if2 .taken)) (λ z. omega (arith, z))
 
-wait-named-requires : tie.Need-wait-named-requires
-wait-named-requires c κs = let t = not-false _ (c .before .if2 .left) in
-    let g = c .before .before .before .before .ready .ensures .0 in
-    (g .size, (g .sound, (g .handles t, (c .before .before .before .before .ready .ensures .1 t, caught-objects _ _ _ _ g t _ _ (c .before .before .before .before .before .before .before .before .before .object-of .ensures)))))
+timer-due-requires : tie.Need-timer-due-requires
+timer-due-requires c κs = search needs
+
+found-before-requires : tie.Need-found-before-requires
+found-before-requires c κs = search needs
+
+refused-requires-2 : tie.Need-refused-requires-2
+refused-requires-2 c κs = search needs
 
 same-length-3 : tie.Need-same-length-3
 same-length-3 c = search needs
 
 returns-3 : tie.Need-returns-3
-returns-3 c = let a = c .before .before .before .before .before .before .before .before .before .before .before .before .before .before .before .args in
-    let t = not-false _ (c .before .before .before .before .if2 .left) in
-    let g = c .before .before .before .before .before .before .before .ready .ensures .0 in
-    let o = c .before .before .before .before .before .before .before .before .before .before .before .before .object-of .result .0 in
-    let q = caught-objects _ _ _ _ g t (a .r .r0) o (c .before .before .before .before .before .before .before .before .before .before .before .before .object-of .ensures) in
-    moves (a .block .now) _ _ _ _ _ (caught-named _ _ _ _ g t (a .r))
-    (named-found _ (a .r) (a .tick) (c .before .before .before .before .before .before .before .ready .ensures .1 t) o q (g .handles t) (caught-over _ _ _ _ g t o (sym (c .before .before .before .before .before .before .before .before .before .before .over .ensures) ∙ c .before .before .before .before .before .before .before .before .before .if1 .left)))
-    (c .before .before .wait-named .ensures .0) (c .before .before .wait-named .ensures .1)
+returns-3 c =
+    let a = c .before .before .before .before .before .before .before .before .before .before .before .before .before .before .args in
+    let b = a .block .now in
+    let p = sym (c .before .before .before .before .before .before .before .before .before .before .before .before .is-pseudo .ensures) ∙ c .before .before .before .before .before .before .before .before .before .before .before .if1 .left in
+    let o = c .before .before .before .before .before .before .before .before .before .object-of .result .0 in
+    refuses b _ (c .before .before .found-before .result) _ (c .refused2 .ensures) (plain-found b (a .r) (a .tick) p o (c .before .before .before .before .before .before .before .before .before .object-of .ensures) (sym (c .before .before .before .before .before .before .before .over-now .ensures) ∙ c .before .before .before .before .before .before .if2 .left) ∙ sym (c .before .before .found-before .ensures)) (c .before .if3 .taken)
+
+catch-up-if-requires : tie.Need-catch-up-if-requires
+catch-up-if-requires c κs =
+    let a = c .before .before .before .before .before .before .before .before .before .before .before .before .before .before .args in
+    let b = a .block .now in
+    let n = none-found false _ (sym (c .before .before .found-before .ensures) ∙ c .before .if3 .left) .1 in
+    let f = or-false (caughtUp (decBlock b) (a .tick) .objects .overflow) (outOfHandles? (decBlock b)) n in
+    (c .before .before .before .before .before .before .before .before .before .before .before .before .before .before .pre .0, (c .before .before .before .before .before .before .before .before .before .before .before .before .before .before .pre .1, (c .before .before .before .before .timer-due .ensures, f .0)))
+
+wait-opened-requires : tie.Need-wait-opened-requires
+wait-opened-requires c κs =
+    let a = c .before .before .before .before .before .before .before .before .before .before .before .before .before .before .before .before .before .before .args in
+    let b = a .block .now in
+    let n = none-found false _ (sym (c .before .before .before .before .before .before .found-before .ensures) ∙ c .before .before .before .before .before .if3 .left) .1 in
+    let f = or-false (caughtUp (decBlock b) (a .tick) .objects .overflow) (outOfHandles? (decBlock b)) n in
+    (search needs, (c .before .before .before .catch-up-if .ensures .1, same-handles _ (decBlock b) _ (c .before .before .before .catch-up-if .ensures .0) (f .1)))
+
+same-length-4 : tie.Need-same-length-4
+same-length-4 c = search needs
+
+returns-4 : tie.Need-returns-4
+returns-4 c =
+    let a = c .before .before .before .before .before .before .before .before .before .before .before .before .before .before .before .before .before .before .before .before .before .args in
+    let b = a .block .now in
+    let p = sym (c .before .before .before .before .before .before .before .before .before .before .before .before .before .before .before .before .before .before .before .is-pseudo .ensures) ∙ c .before .before .before .before .before .before .before .before .before .before .before .before .before .before .before .before .before .before .if1 .left in
+    let o = c .before .before .before .before .before .before .before .before .before .before .before .before .before .before .before .before .object-of .result .0 in
+    moves b _ _ _ _ _ (ap (λ (k : Kernel). wait1Opened k o (a .r) (a .tick)) (c .before .before .before .before .before .before .catch-up-if .ensures .0) ∙ plain-is b (a .r) (a .tick) p o (c .before .before .before .before .before .before .before .before .before .before .before .before .before .before .before .before .object-of .ensures))
+    (plain-found b (a .r) (a .tick) p o (c .before .before .before .before .before .before .before .before .before .before .before .before .before .before .before .before .object-of .ensures) (sym (c .before .before .before .before .before .before .before .before .before .before .before .before .before .before .over-now .ensures) ∙ c .before .before .before .before .before .before .before .before .before .before .before .before .before .if2 .left) ∙ sym (c .before .before .before .before .before .before .before .before .before .found-before .ensures) ∙ c .before .before .before .before .before .before .before .before .if3 .left) (c .before .before .wait-opened .ensures .0) (c .before .before .wait-opened .ensures .1)
 
 pub wait-synchronization1-spec : {M : Type 1} → statement M
 wait-synchronization1-spec =
     tie.close
     (tie.spec
-    object-of-requires
-    over-requires
-    by-value-requires
+    is-pseudo-requires
+    wait-pseudo-requires
     same-length
     returns
-    ready-requires
-    by-value-requires-2
+    object-of-requires
+    over-now-requires
+    refused-requires
     same-length-2
     returns-2
-    wait-named-requires
+    timer-due-requires
+    found-before-requires
+    refused-requires-2
     same-length-3
-    returns-3)
+    returns-3
+    catch-up-if-requires
+    wait-opened-requires
+    same-length-4
+    returns-4)
