@@ -4,7 +4,9 @@ use Prim.Native.Nat.{_+_, _-_, _≤_, _<_}
 use native.Mathlib.Omega.{arith}
 use lib.ListN.{length}
 use Rattle.due.proofs.Slots.{caughtSlot, caught-same}
-use Rattle.due.proofs.Caught.{CaughtTo, caught-none, caught-next, caught-more, caught-all, old-is}
+use Rattle.rows.specs.Holds.{holds}
+use Rattle.rows.specs.Slots.{slot-before, slots-none, slots-next, slots-more}
+use Rattle.due.proofs.Caught.{CaughtTo, caught-all}
 use Rattle.types.specs.declared.object.Slot.{Slot}
 use borrow.Author.Needs.{needs}
 use Rattle.due.proofs.catch_up_slots.Statement.{statement}
@@ -17,7 +19,7 @@ abbrev μ-loop : tie.MeasureT-loop
 μ-loop b₀ m tick i₀ b i = 128 - i
 
 loop-holds : tie.Need-loop-holds Inv-loop μ-loop
-loop-holds c = let a = c .before .args in (search needs, (search needs, caught-none (a .m .now) (a .tick) (a .b .now) (c .before .pre .0) (c .before .pre .1)))
+loop-holds c = let a = c .before .args in (search needs, (search needs, slots-none (a .b .now) (caughtSlot (a .m .now) (a .tick)) (c .before .pre .0) (holds (a .b .now) (c .before .pre .1))))
 
 slot-at-requires : tie.Need-slot-at-requires Inv-loop μ-loop
 slot-at-requires c κs = search needs
@@ -59,15 +61,15 @@ loop-again c = let l = c .before .before .before .before .before .loop in
     let s = a .b .now in
     let h : l .i < 128 = omega arith in
     let g = l .inv .1 .1 in
-    let old = c .before .before .slot-at .ensures ∙ old-is m (a .tick) s (l .i) (l .b) h g in (
+    let old = c .before .before .slot-at .ensures ∙ slot-before s (l .i) (l .b) h (g .rows) in (
       search needs,
       ⊎-elim
           (λ w.
-          let n = caught-more m (a .tick) s (l .i) (l .b) h g (w .2 .result) (w .2 .ensures ∙ ap (caughtSlot m (a .tick) (l .i + 1)) old) in
-          rw (w .7, w .4 .ensures) (n .size, n))
+          let n = slots-more s (caughtSlot m (a .tick)) (l .i) (l .b) h g (w .2 .result) (w .2 .ensures ∙ ap (caughtSlot m (a .tick) (l .i + 1)) old) in
+          rw (w .7, w .4 .ensures) (n .rows .long, n))
           (λ w.
-          let n = caught-next m (a .tick) s (l .i) (l .b) h g (subst (λ (x : Slot). caughtSlot m (a .tick) (l .i + 1) x ≡ x) old (caught-same m (a .tick) (l .i + 1) (c .before .before .slot-at .result) (sym (c .before .may-change .ensures) ∙ w .0 .left))) in
-          rw (w .1) (n .size, n))
+          let n = slots-next s (caughtSlot m (a .tick)) (l .i) (l .b) h g (subst (λ (x : Slot). caughtSlot m (a .tick) (l .i + 1) x ≡ x) old (caught-same m (a .tick) (l .i + 1) (c .before .before .slot-at .result) (sym (c .before .may-change .ensures) ∙ w .0 .left))) in
+          rw (w .1) (n .rows .long, n))
           (c .if1 .came),
     )
 
@@ -77,8 +79,7 @@ same-length c = search needs
 returns : tie.Need-returns Inv-loop μ-loop
 returns c = let l = c .before .loop in
     let a = c .before .before .before .args in
-    let e : l .i ≡ 128 = omega arith in
-    (caught-all (a .m .now) (a .tick) (a .b .now) (l .b) (rw e at (l .inv .1 .1)), l .inv .1 .0)
+    (caught-all (a .m .now) (a .tick) (a .b .now) (l .b) (l .i) (omega arith) (l .inv .1 .1), l .inv .1 .0)
 
 pub catch-up-slots-spec : {M : Type 1} → statement M
 catch-up-slots-spec =
