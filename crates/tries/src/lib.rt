@@ -142,10 +142,9 @@ pub fn try_waits(block: &mut [u8], tick: u64) -> bool
     ensures { λ r. ⌜ ((r ≡ false) → decBlock (now (block .exit)) ≡ during (decBlock (now (block .entry))) (pass.tried (decBlock (now (block .entry))) tick)) ⌝ }
     ensures { λ r. ⌜ ((r ≡ false) → sound? (now (block .exit)) ≡ true) ⌝ }
 {
-    if due::over(block, tick) {
+    if slots::fire(block, tick) {
         return true;
     }
-    slots::fire(block, tick);
     let mut i: u32 = 0;
     while i < 32 {
         if try_wait(block, i, tick) {

@@ -13,22 +13,26 @@ ghost use Rattle.thread.specs.Threads.{withThreads};
 ghost use Rattle.pass.specs.Signal.{clearPulses};
 ghost use Rattle.pass.specs.Timers.{anyOver, fireTimers};
 
-// Timers that are due fire.
-pub fn fire(block: &mut [u8], tick: u64)
+// Timers that are due fire. True if a count of periods does not fit; some have fired then.
+pub fn fire(block: &mut [u8], tick: u64) -> bool
     requires { ⌜ length (now block) ≡ 16384 ⌝ }
     requires { ⌜ sound? (now block) ≡ true ⌝ }
-    requires { ⌜ anyOver tick (decBlock (now block) .objects .slots) ≡ false ⌝ }
-    ensures { λ _. ⌜ decBlock (now (block .exit)) ≡ withThreads (decBlock (now (block .entry))) (decBlock (now (block .entry)) .threads) (fireTimers (decBlock (now (block .entry)) .objects) tick) ⌝ }
-    ensures { λ _. ⌜ sound? (now (block .exit)) ≡ true ⌝ }
+    ensures { λ r. ⌜ r ≡ anyOver tick (decBlock (now (block .entry)) .objects .slots) ⌝ }
+    ensures { λ r. ⌜ ((r ≡ false) → decBlock (now (block .exit)) ≡ withThreads (decBlock (now (block .entry))) (decBlock (now (block .entry)) .threads) (fireTimers (decBlock (now (block .entry)) .objects) tick)) ⌝ }
+    ensures { λ r. ⌜ ((r ≡ false) → sound? (now (block .exit)) ≡ true) ⌝ }
 {
     let mut i: usize = 0;
     while i < 128 {
         let old = record::slot_at(block, i);
         if timer::slot_due(old, tick) {
+            if timer::slot_over(old, tick) {
+                return true;
+            }
             write::put_slot(block, (i + 1) as u32, timer::fired_slot(tick, old));
         }
         i += 1;
     }
+    false
 }
 
 // Pulses end.
