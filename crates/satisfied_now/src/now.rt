@@ -1,13 +1,11 @@
 // What a wait on a list of handles would find at once (`satisfied_now`), read from the block where it lies.
 use asked::open;
-use block::record;
 use pass::IndexOption;
 use pass::Satisfied;
 use rows::read;
-use tally::place;
 use types::thread::ThreadOption;
 use units::ObjectId;
-use wait::satisfy;
+use wait::look;
 ghost use mathlib.Core.Path.{_≡_};
 ghost use mathlib.Core.List.{map};
 ghost use Prim.Native.Nat.{_*_, _≤_};
@@ -17,9 +15,7 @@ ghost use Rattle.codec.specs.Layout.{decAll};
 ghost use Rattle.block.specs.Block.{decBlock};
 ghost use Rattle.sound.specs.View.{ids};
 ghost use Rattle.kernel.specs.NextEvent.{contains};
-ghost use Rattle.pass.specs.Waits.{satisfiedAt};
 ghost use Rattle.pass.specs.Asks as def;
-ghost use Rattle.wait.specs.Looks.{firstWhere};
 ghost use Rattle.satisfied_now.specs.Found.{foundIn, satisfiedIn};
 
 fn open_list(b: &[u8], list: &[u8], n: usize) -> [ObjectId; 8]
@@ -75,37 +71,6 @@ fn found_as(found: IndexOption, l: [ObjectId; 8]) -> Satisfied
     }
 }
 
-// The first of n places whose signal for thread w is as wanted.
-fn first_in(b: &[u8], l: [ObjectId; 8], n: u32, w: u32, want: bool) -> IndexOption
-    requires { ⌜ length (now b) ≡ 16384 ⌝ }
-    ensures { λ r. ⌜ r ≡ firstWhere (decBlock (now (b .entry)) .threads) (decBlock (now (b .entry)) .objects .slots) w want 0 (take n (ids l)) ⌝ }
-{
-    let mut i: usize = 0;
-    while i < 8 {
-        if n <= i as u32 {
-            return IndexOption::NoIndex;
-        }
-        let o = l[i];
-        let x = record::slot_at(b, place::slot_index(o.0));
-        let y = record::thread_at(b, satisfy::named_index(o.0, x));
-        if satisfy::look(want, o.0, x, y, w) {
-            return IndexOption::SomeIndex(i as u32);
-        }
-        i += 1;
-    }
-    IndexOption::NoIndex
-}
-
-// The index that a wait of thread w on the first n of the list gives now.
-fn satisfied_at(b: &[u8], w: u32, all: bool, l: [ObjectId; 8], n: u32) -> IndexOption
-    requires { ⌜ length (now b) ≡ 16384 ⌝ }
-    ensures { λ r. ⌜ r ≡ satisfiedAt (decBlock (now (b .entry)) .threads) (decBlock (now (b .entry)) .objects) w all (take n (ids l)) ⌝ }
-{
-    let want = !all;
-    let first = first_in(b, l, n, w, want);
-    satisfy::index_for(all, first)
-}
-
 fn satisfied_for(b: &[u8], c: u32, l: [ObjectId; 8], n: usize, all: bool) -> Satisfied
     requires { ⌜ length (now b) ≡ 16384 ⌝ }
     requires { ⌜ n ≤ 8 ⌝ }
@@ -114,7 +79,7 @@ fn satisfied_for(b: &[u8], c: u32, l: [ObjectId; 8], n: usize, all: bool) -> Sat
     if any_none(l, n) {
         return unsatisfied();
     }
-    let found = satisfied_at(b, c, all, l, n as u32);
+    let found = look::satisfied_at(b, c, all, l, n as u32);
     found_as(found, l)
 }
 
