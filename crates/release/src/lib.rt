@@ -92,14 +92,13 @@ pub fn release(block: &mut [u8], o: ObjectId)
         free_slot(block, o, old);
         return;
     }
-    let mark = old.pulsed;
     write::put_slot(
         block,
         o.0,
         Slot {
             object: x,
             refcount: n - 1,
-            pulsed: mark,
+            pulsed: old.pulsed,
         },
     );
 }

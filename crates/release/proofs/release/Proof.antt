@@ -44,8 +44,8 @@ returns-2 c = let b = c .before .before .before .before .before .before .before 
     released b (c .before .before .before .before .before .before .before .before .before .before .pre .1) (c .before .before .before .before .before .before .before .before .before .before .args .o .0) _ (omega (arith, c .before .before .before .before .before .before .before .before .before .before .good)) (subst (λ s. Holds (c .before .before .free-slot .last .0) (withThreads k (k .threads) s)) (sym e) (c .before .before .free-slot .ensures))
 
 -- src/lib.rt:101:23
-sub-t17 : tie.Need-sub-t17
-sub-t17 c = search needs
+sub-t16 : tie.Need-sub-t16
+sub-t16 c = search needs
 
 -- src/lib.rt:96:5
 put-slot-requires : tie.Need-put-slot-requires
@@ -71,7 +71,7 @@ release-spec =
     free-slot-requires
     same-length-2
     returns-2
-    sub-t17
+    sub-t16
     put-slot-requires
     same-length-3
     returns-3)
