@@ -46,7 +46,7 @@ module _ (b : List ℕ) (s : sound? b ≡ true) (h : ℕ) where
     thread-some : (t : ℕ) → k .«current_thread» ≡ SomeThread t → noRoom k h ≡ false → keptAt (threadObject (k .objects) t) t ≢ 0
     thread-some t q r z = elim (ℕ-discrete (keptAt (k .objects) t) 0) [
       | yes w ↦
-          let p : k .objects .free ≡ 0 = sym (ap (λ (y : ObjectStore). keptAt y t) (made-thread b s t w) ∙ kept-put b s (k .objects .«thread_objects») t (k .objects .free) (holds b s .sizes .ni) ∙ rw (lt-ltb t 32 (current-place b s t q))) ∙ z in
+          let p : k .objects .free ≡ 0 = sym (ap (λ (y : ObjectStore). keptAt y t) (made-thread b s t w) ∙ kept-put (k .objects .«thread_objects») t (k .objects .free) (holds b s .sizes .ni) ∙ rw (lt-ltb t 32 (current-place b s t q))) ∙ z in
           lacks _ _ (eq-eqb (k .objects .free) 0 p) (eq-eqb (keptAt (k .objects) t) 0 w) (sym (room-is t q) ∙ r)
       | no w ↦ w (ap (λ (y : ObjectStore). keptAt y t) (sym (thread-kept b s t w)) ∙ z)
     ]
@@ -101,7 +101,7 @@ module _ (b : List ℕ) (s : sound? b ≡ true) (h : ℕ) where
       names-plain true z = record { none = λ _. plain-is ∙ ap (λ (m : ℕ). record { object = record { 0 = m }; store = k .objects }) (eqb-true (objectOf (k .handles) h) 0 z); some = λ w. false-true w }
       names-plain false z = record { none = λ w. false-true (sym w); some = λ _ _ w. eqb-false (objectOf (k .handles) h) 0 z (sym (ap (λ (y : Resolved). y .object .0) plain-is) ∙ w) }
 
-  pub names-is : Names k h (named k h)
+  pub names-is : Names k h (named (k .«current_thread») (k .handles) h)
   names-is = elim (ℕ-discrete h 0xFFFF8000) [
     | yes e ↦ rw (eq-eqb h 0xFFFF8000 e) (names-flag e (eqb (threadFlag (k .«current_thread»)) 0) refl)
     | no e ↦ elim (ℕ-discrete h 0xFFFF8001) [

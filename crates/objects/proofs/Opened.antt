@@ -32,6 +32,15 @@ use Rattle.rows.specs.Holds.{Holds, holds, put-kept}
 use Rattle.objects.specs.declared.open.Opened.{Opened}
 use Rattle.objects.specs.Open.{Opens, ofProcess, foundMaking}
 
+-- an object kept for the thread t
+pub kept-put : (l : List ObjectId) (t o : ℕ) → length l ≡ 32 → getD (ids (set l t (record { 0 = o }))) t 0 ≡ pick (ltb t 32) o 0
+kept-put l t o n = elim (lt-cases t 32) [
+  | inl h ↦ rw (lt-ltb t 32 h) (List·getD-map (λ (x : ObjectId). x .0) (set l t (record { 0 = o })) t (record { 0 = 0 }) ∙ ap (λ (x : ObjectId). x .0) (getD-set-same l t (record { 0 = o }) (record { 0 = 0 }) (omega (arith, n))))
+  | inr h ↦
+      let g : length (ids l) ≤ t = simp length-map (omega (arith, n)) in
+      rw (le-ltb t 32 h, set-out l t (record { 0 = o }) (omega (arith, n))) (List·getD-eq-default (ids l) 0 g)
+]
+
 module _ (b : List ℕ) (s : sound? b ≡ true) where
   abbrev k : Kernel
   k = decBlock b
@@ -85,14 +94,6 @@ module _ (b : List ℕ) (s : sound? b ≡ true) where
     holds = λ z. rw (made-process p) h;
     object = λ z. q ∙ ap (λ (y : ObjectStore). y .«process_object» .0) (sym (made-process p));
   }
-
-  pub kept-put : (l : List ObjectId) (t o : ℕ) → length l ≡ 32 → getD (ids (set l t (record { 0 = o }))) t 0 ≡ pick (ltb t 32) o 0
-  kept-put l t o n = elim (lt-cases t 32) [
-    | inl h ↦ rw (lt-ltb t 32 h) (List·getD-map (λ (x : ObjectId). x .0) (set l t (record { 0 = o })) t (record { 0 = 0 }) ∙ ap (λ (x : ObjectId). x .0) (getD-set-same l t (record { 0 = o }) (record { 0 = 0 }) (omega (arith, n))))
-    | inr h ↦
-        let g : length (ids l) ≤ t = simp length-map (omega (arith, n)) in
-        rw (le-ltb t 32 h, set-out l t (record { 0 = o }) (omega (arith, n))) (List·getD-eq-default (ids l) 0 g)
-  ]
 
   pub opens-thread : (t : ℕ) (m : List ℕ) (o : Opened) → keptAt (k .objects) t ≡ 0 → o .object .0 ≡ pick (ltb t 32) (k .objects .free) 0 → o .found ≡ 0 → foundMaking k ≡ 0
       → Holds m (withObjects k (withProcess (insert (k .objects) (Thread t)) (k .objects .«process_object»)))

@@ -79,7 +79,7 @@ module _ (b : List ℕ) (h : ℕ) where
 
   -- f is its first free slot
   module _ (f : ℕ) (e : f ≡ le 4 b 32) where
-    free-is : f ≡ j .objects .free
+    pub free-is : f ≡ j .objects .free
     unfolding decBlock decAs
     free-is = e
 

@@ -6,6 +6,7 @@ use mathlib.Core.Logic.{_≢_}
 use Prim.Native.Nat.{ℕ}
 use lib.Dec.{eqb}
 use Rattle.laws.specs.Logic.{pick, _and_}
+use Rattle.types.specs.declared.object.HandleTable.{HandleTable}
 use Rattle.types.specs.declared.object.ObjectStore.{ObjectStore}
 use Rattle.types.specs.declared.thread.ThreadOption.{ThreadOption}
 use Rattle.types.specs.declared.thread.ThreadOption.the-variants.{NoThread, SomeThread}
@@ -45,8 +46,8 @@ abbrev pub noRoom : Kernel → ℕ → Bool
 noRoom k h = eqb (k .objects .free) 0 and makes k h
 
 -- whether a handle names an object once it is open, with a slot for one that is to be made
-abbrev pub named : Kernel → ℕ → Bool
-named k h = pick (eqb h 0xFFFF8000) (not (eqb (threadFlag (k .«current_thread»)) 0)) (pick (eqb h 0xFFFF8001) true (not (eqb (objectOf (k .handles) h) 0)))
+abbrev pub named : ThreadOption → HandleTable → ℕ → Bool
+named c t h = pick (eqb h 0xFFFF8000) (not (eqb (threadFlag c) 0)) (pick (eqb h 0xFFFF8001) true (not (eqb (objectOf t h) 0)))
 
 pub record Names (k : Kernel) (h : ℕ) (r : Bool) : Type 0 where
   pub none : r ≡ false → resolved k h ≡ record { object = record { 0 = 0 }; store = k .objects }

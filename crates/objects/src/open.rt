@@ -214,7 +214,7 @@ pub fn no_room(block: &[u8], h: u32) -> bool
 // Whether the handle names an object once it is open.
 pub fn names(block: &[u8], h: u32) -> bool
     requires { ⌜ length (now block) ≡ 16384 ⌝ }
-    ensures { λ r. ⌜ r ≡ named (decBlock (now (block .entry))) h ⌝ }
+    ensures { λ r. ⌜ r ≡ named (decBlock (now (block .entry)) .«current_thread») (decBlock (now (block .entry)) .handles) h ⌝ }
 {
     if h == 0xFFFF8000 {
         let current = read::current(block);

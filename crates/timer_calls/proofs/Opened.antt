@@ -28,7 +28,7 @@ use Rattle.objects.proofs.Room.{resolved-full}
 use Rattle.objects.proofs.Sound.{opened-state}
 
 -- only slots change, and whether a count fits
-caught-as : (s : ObjectStore) (ts : List Thread) (tick : ℕ) → catchUpTimers s ts tick ≡ withOverflow (withSlots s (catchUpTimers s ts tick .slots)) (catchUpTimers s ts tick .overflow)
+pub caught-as : (s : ObjectStore) (ts : List Thread) (tick : ℕ) → catchUpTimers s ts tick ≡ withOverflow (withSlots s (catchUpTimers s ts tick .slots)) (catchUpTimers s ts tick .overflow)
 unfolding catchUpTimers fireTimers
 caught-as s ts tick = go (timerDue tick (s .slots)) _ _
   where

@@ -1,4 +1,3 @@
 -- What the calls on timers do in the block.
-pub mod Caught
 pub mod Kinds
 pub mod Named

@@ -25,7 +25,7 @@ use Rattle.svc.specs.Call.{withObjects}
 use Rattle.svc.specs.Waits.{waitTime}
 use Rattle.lent.specs.Operations.{finding, outOfHandles?}
 use Rattle.outcome.specs.Findings.{foundOf, parts-finding}
-use Rattle.blocking.specs.Waits.{waitOnIn}
+use Rattle.wait_calls.specs.Waits.{waitOnIn}
 use Rattle.timer_calls.proofs.Found.{down}
 
 module _ (k : Kernel) (c : ℕ) (l : List ObjectId) (n : ℕ) (all : Bool) (nanos tick : ℕ) (call : WaitSyscall) (e : k .«current_thread» ≡ SomeThread c) where

@@ -12,14 +12,15 @@ use Rattle.types.specs.declared.thread.Thread as th
 use Rattle.types.specs.declared.thread.ThreadOption.{ThreadOption}
 use Rattle.types.specs.declared.thread.ThreadOption.the-variants.{NoThread, SomeThread}
 use Rattle.types.specs.declared.thread.WaitSyscall.the-variants.{WaitSynchronization1}
+use Rattle.types.specs.declared.sync.Timer as ti
 use Rattle.types.specs.declared.object.KObject.{KObject}
-use Rattle.types.specs.declared.object.KObject.the-variants.{Free, Thread, Event, Mutex, Semaphore, Timer, AddressArbiter, Process, ResourceLimit}
+use Rattle.types.specs.declared.object.KObject.the-variants.{Free, Thread, Timer, Process}
 use Rattle.types.specs.declared.object.ObjectStore.{ObjectStore}
 use Rattle.types.specs.declared.kernel.Kernel.{Kernel}
 use Rattle.types.specs.Thread.{threadFlag, threadValue}
 use Rattle.block.specs.Block.{decBlock}
-use Rattle.sound.specs.View.{slotAt, objectAt}
-use Rattle.sound.specs.Objects.{refOf, ofNone, KeptOk}
+use Rattle.sound.specs.View.{objectAt}
+use Rattle.sound.specs.Objects.{KeptOk}
 use Rattle.object.specs.Slots.{content}
 use Rattle.pass.specs.Asks.{padded, pseudo}
 use Rattle.pass.specs.Signal.{isSignaled, acquireOver, acquire}
@@ -34,7 +35,8 @@ use Rattle.objects.proofs.Pseudo.{pseudo-object}
 use Rattle.wait_calls.specs.Named.{wait1Opened}
 use Rattle.wait_calls.specs.Over.{overNow}
 use Rattle.wait_calls.proofs.Begins.{begun-finding}
-use Rattle.wait_calls.proofs.Still.{untimed, caught-object}
+use Rattle.wait_calls.proofs.Still.{caught-same}
+use Rattle.wait_calls.proofs.Far.{near-fits, near-kept, near-none}
 
 -- ---- as it is asked
 pub over-none : (c : ThreadOption) (ts : List th.Thread) (x : KObject) → acquireOver x ≡ false → overNow c ts x ≡ false
@@ -50,37 +52,17 @@ over-some NoThread ts x z e = absurd (z refl)
 over-some (SomeThread w) ts x z e = sym (and-end (isSignaled ts x w)) ∙ ap (λ (b : Bool). isSignaled ts x w and b) (sym e)
 
 -- ---- catching up with the timers changes nothing of it
-over-untimed : (c : ThreadOption) (ts : List th.Thread) (x : KObject) → overNow c ts (untimed x) ≡ overNow c ts x
+over-timer : (c : ThreadOption) (ts : List th.Thread) (t : ti.Timer) → overNow c ts Process ≡ overNow c ts (Timer t)
 unfolding _and_
-over-untimed NoThread ts x = refl
-over-untimed (SomeThread w) ts (Free n) = refl
-over-untimed (SomeThread w) ts (Thread u) = refl
-over-untimed (SomeThread w) ts (Event e) = refl
-over-untimed (SomeThread w) ts (Mutex m) = refl
-over-untimed (SomeThread w) ts (Semaphore s) = refl
-over-untimed (SomeThread w) ts (Timer t) = sym (and-false (t .signaled))
-over-untimed (SomeThread w) ts (AddressArbiter a) = refl
-over-untimed (SomeThread w) ts Process = refl
-over-untimed (SomeThread w) ts ResourceLimit = refl
+over-timer NoThread ts t = refl
+over-timer (SomeThread w) ts t = sym (and-false (t .signaled))
 
 pub over-caught : (c : ThreadOption) (ts : List th.Thread) (s : ObjectStore) (tick o : ℕ) → overNow c ts (objectAt (catchUpTimers s ts tick) o) ≡ overNow c ts (objectAt s o)
-over-caught c ts s tick o =
-    sym (over-untimed c ts (objectAt (catchUpTimers s ts tick) o)) ∙ ap (overNow c ts) (caught-object s ts tick o) ∙ over-untimed c ts (objectAt s o)
+over-caught c ts s tick o = caught-same (overNow c ts) (over-timer c ts) s ts tick o
 
 -- ---- what a pseudo-handle names has no count
-uncounted : (x : KObject) → (refOf x ≡ ofNone → ⊥) → acquireOver x ≡ false
-uncounted (Free m) n = refl
-uncounted (Thread u) n = refl
-uncounted (Event e) n = refl
-uncounted (Mutex m) n = absurd (n refl)
-uncounted (Semaphore s) n = absurd (n refl)
-uncounted (Timer t) n = refl
-uncounted (AddressArbiter a) n = refl
-uncounted Process n = refl
-uncounted ResourceLimit n = refl
-
 pub over-pseudo : (c : ThreadOption) (ts : List th.Thread) (k : Kernel) (h : ℕ) → pseudo h ≡ true → KeptOk (resolved k h .store) → overNow c ts (objectAt (resolved k h .store) (resolved k h .object .0)) ≡ false
-over-pseudo c ts k h e ok = pseudo-object (λ x. overNow c ts x ≡ false) (over-none c ts (Free 0) refl) (λ x n. over-none c ts x (uncounted x n)) k h e ok
+over-pseudo c ts k h e ok = pseudo-object (λ x. overNow c ts x ≡ false) (over-none c ts (Free 0) refl) (λ x n. over-none c ts x (near-fits x (near-kept x n))) k h e ok
 
 -- ---- what the wait finds; s is the store then
 module _ (b : List ℕ) (s : ObjectStore) where
@@ -112,14 +94,10 @@ module _ (b : List ℕ) (s : ObjectStore) where
       (pick-finding (eqb nanos 0) (found false) (answers 17 q) (waitOn q c (o ∷ []) false nanos tick WaitSynchronization1) same-found
       (begun-finding b s c (padded 8 (o ∷ [])) 1 false nanos tick WaitSynchronization1 e ∙ sym found-none))
 
-  no-object : (o : ℕ) → o ≡ 0 → acquireOver (objectAt s o) ≡ false
-  unfolding slotAt
-  no-object o e = rw e
-
   pub wait1-finding : (o : ℕ) (r : Registers) (tick : ℕ) → finding (wait1Opened q o r tick .kernel) ≡ found (overNow (decBlock b .«current_thread») (decBlock b .threads) (objectAt s o))
   wait1-finding o r tick = go (eqb o 0) refl
     where
       go : (t : Bool) → eqb o 0 ≡ t
           → finding (pick t (answers 16 q) (wait1As (decBlock b .«current_thread») q o (pair (r .r2) (r .r3)) tick) .kernel) ≡ found (overNow (decBlock b .«current_thread») (decBlock b .threads) (objectAt s o))
-      go true e = same-found ∙ ap found (sym (over-none (decBlock b .«current_thread») (decBlock b .threads) (objectAt s o) (no-object o (eqb-true o 0 e))))
+      go true e = same-found ∙ ap found (sym (over-none (decBlock b .«current_thread») (decBlock b .threads) (objectAt s o) (near-fits (objectAt s o) (near-none s o (eqb-true o 0 e)))))
       go false e = as-found (decBlock b .«current_thread») refl o (pair (r .r2) (r .r3)) tick

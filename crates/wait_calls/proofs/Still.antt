@@ -19,7 +19,7 @@ use Rattle.pass.specs.Signal.{isPulse, waitedSync}
 use Rattle.pass.specs.Timers.{firedTimer, firedAt, firedAs, firedSlot, fireTimers, timerDue, lostObject, lostSlot, lostSlots, catchUpTimers}
 
 -- an object with its timer left out
-abbrev pub untimed : KObject → KObject
+abbrev untimed : KObject → KObject
 untimed (Free n) = Free n
 untimed (Thread u) = Thread u
 untimed (Event e) = Event e
@@ -96,5 +96,18 @@ unfolding slotAt
 at-number l m e zero = refl
 at-number l m e (suc i) = sym (List·getD-map still l i noSlot) ∙ ap (λ (z : List KObject). getD z i (still noSlot)) e ∙ List·getD-map still m i noSlot
 
-pub caught-object : (s : ObjectStore) (ts : List th.Thread) (tick o : ℕ) → untimed (objectAt (catchUpTimers s ts tick) o) ≡ untimed (objectAt s o)
-caught-object s ts tick o = at-number (catchUpTimers s ts tick .slots) (s .slots) (caught-all s ts tick) o
+untimed-same : {A : Type 0} (f : KObject → A) → ((t : ti.Timer) → f Process ≡ f (Timer t)) → (x : KObject) → f (untimed x) ≡ f x
+untimed-same f e (Free n) = refl
+untimed-same f e (Thread u) = refl
+untimed-same f e (Event v) = refl
+untimed-same f e (Mutex m) = refl
+untimed-same f e (Semaphore s) = refl
+untimed-same f e (Timer t) = e t
+untimed-same f e (AddressArbiter a) = refl
+untimed-same f e Process = refl
+untimed-same f e ResourceLimit = refl
+
+-- what f tells of an object is the same after, if it tells nothing of timers
+pub caught-same : {A : Type 0} (f : KObject → A) → ((t : ti.Timer) → f Process ≡ f (Timer t)) → (s : ObjectStore) (ts : List th.Thread) (tick o : ℕ) → f (objectAt (catchUpTimers s ts tick) o) ≡ f (objectAt s o)
+caught-same f e s ts tick o =
+    sym (untimed-same f e (objectAt (catchUpTimers s ts tick) o)) ∙ ap f (at-number (catchUpTimers s ts tick .slots) (s .slots) (caught-all s ts tick) o) ∙ untimed-same f e (objectAt s o)

@@ -17,7 +17,7 @@ use Rattle.lent.specs.Operations.{finding, outOfHandles?}
 use Rattle.outcome.specs.Outcome.{left, left-0, left-found}
 use Rattle.outcome.specs.Findings.{foundOf, parts-finding}
 use Rattle.rows.specs.Rows.{slotPut}
-use Rattle.timer_calls.proofs.Found.{down, nothing-found}
+use Rattle.timer_calls.proofs.Found.{down}
 use Rattle.rows.specs.Holds.{holds}
 use Rattle.objects.proofs.Changed.{put-content}
 
@@ -51,6 +51,7 @@ module _ (b : List ℕ) (s : sound? b ≡ true) (n : outOfHandles? (decBlock b) 
       ∙ ap (λ (z : Bool). withObjects k (withOverflow (content (k .objects) o (acquired (objectAt (k .objects) o) w)) z)) (down b .1 ∙ sym (over-is ∙ v))
 
   pub taken-fits : (y : Slot) → y ≡ withObject x (acquired (x .object) w) → false or acquireOver (x .object) ≡ false → (0 ≡ finding after) × (slotPut b o y ≡ left (done after) b)
+  unfolding _or_
   taken-fits y q v =
-      let f : finding after ≡ 0 = nothing-found b n (k .threads) (acquire (k .objects) o w) full-is (over-is ∙ v) in
+      let f : finding after ≡ 0 = parts-finding b (k .threads) (acquire (k .objects) o w) ∙ (λ i. foundOf (full-is i) ((over-is ∙ v) i or n i)) in
       (sym f, ap (slotPut b o) q ∙ put-content (holds b s) o x (acquired (x .object) w) e .same ∙ ap encBlock (same-state v) ∙ sym (left-0 (done after) b f))

@@ -5,7 +5,7 @@ use mathlib.Core.List.{List}
 use mathlib.Core.Logic.{_≢_}
 use Prim.Native.Nat.{ℕ}
 use borrow.Author.Tests.{eq-eqb, ne-eqb}
-use Rattle.laws.specs.Logic.{_or_, or-true, or-end, or-false}
+use Rattle.laws.specs.Logic.{_or_, or-true, or-end, or-false, false-true}
 use Rattle.types.specs.declared.thread.ThreadOption.{ThreadOption}
 use Rattle.types.specs.declared.thread.ThreadOption.the-variants.{SomeThread}
 use Rattle.types.specs.declared.object.ObjectStore.{ObjectStore}
@@ -25,40 +25,47 @@ use Rattle.svc.specs.Timers.{caughtUp}
 use Rattle.svc.specs.Waits.{wait1As, waitSynchronization1}
 use Rattle.lent.specs.Operations.{finding, outOfHandles?}
 use Rattle.outcome.specs.declared.Outcome.{Outcome}
-use Rattle.outcome.specs.Outcome.{accepted, refused, outcome, left, outcome-found, left-found}
-use Rattle.outcome.specs.Findings.{foundOf, none-found, parts-finding}
+use Rattle.outcome.specs.Outcome.{accepted, refused, outcome, left, outcome-0, outcome-found, left-0, left-found}
+use Rattle.outcome.specs.Findings.{foundOf, none-found, same-finding, parts-finding}
 use Rattle.rows.specs.Holds.{holds}
 use Rattle.rows.specs.Current.{some-thread, no-thread}
 use Rattle.svc.proofs.Handles.{plain}
 use Rattle.objects.specs.declared.open.Opened.{Opened}
 use Rattle.objects.specs.Open.{Opens}
-use Rattle.timer_calls.proofs.Found.{leaves}
 use Rattle.timer_calls.proofs.Opened.{caught-full}
 use Rattle.wait_calls.specs.Named.{wait1Opened, wait1-is}
 use Rattle.wait_calls.specs.Over.{overNow}
-use Rattle.wait_calls.proofs.Fits.{same-found}
 use Rattle.wait_calls.proofs.Now.{over-caught, over-pseudo, wait1-finding}
 
--- a call that leaves the state as it is, or as it is when the timers of b have fired, in e
-pub rests : (b e : List ℕ) → sound? e ≡ true → outOfHandles? (decBlock e) ≡ false → (o : Outcome) (v w : Served) → v .kernel ≡ decBlock e → v ≡ w → o ≡ accepted v → (o ≡ outcome w) × (e ≡ left w b)
-rests b e s n o v w k q p =
-    leaves b o e v w (sym q) (ap finding k ∙ same-found e n) p (holds e s .same ∙ ap encBlock (sym k))
+-- nothing is found of a block as it is
+pub same-found : (b : List ℕ) → outOfHandles? (decBlock b) ≡ false → finding (decBlock b) ≡ 0
+same-found b n = same-finding b ∙ ap (foundOf false) n
 
+-- with nothing found, what a call leaves does not hang on the block before
+pub moves : (b e : List ℕ) (o : Outcome) (x : List ℕ) (v w : Served) → v ≡ w → finding (w .kernel) ≡ 0 → o ≡ outcome v → x ≡ left v e → (o ≡ outcome w) × (x ≡ left w b)
+moves b e o x v w q z p r = (p ∙ ap outcome q, r ∙ ap (λ (u : Served). left u e) q ∙ left-0 w e z ∙ sym (left-0 w b z))
+
+-- the call w, which is v and finds nothing
+pub leaves : (b : List ℕ) (o : Outcome) (x : List ℕ) (v w : Served) → w ≡ v → finding (v .kernel) ≡ 0 → o ≡ accepted v → x ≡ encBlock (v .kernel) → (o ≡ outcome w) × (x ≡ left w b)
+leaves b o x v w q z p r = rw q (p ∙ sym (outcome-0 v z), r ∙ sym (left-0 v b z))
+
+-- a call that leaves the state as it is
 pub stays : (b : List ℕ) → sound? b ≡ true → outOfHandles? (decBlock b) ≡ false → (o : Outcome) (v w : Served) → v .kernel ≡ decBlock b → v ≡ w → o ≡ accepted v → (o ≡ outcome w) × (b ≡ left w b)
-stays b s n o v w k q p = rests b b s n o v w k q p
+stays b s n o v w k q p = leaves b o b v w (sym q) (ap finding k ∙ same-found b n) p (holds b s .same ∙ ap encBlock (sym k))
 
 -- a call that finds something
 pub refuses : (b : List ℕ) (o : Outcome) (n : ℕ) (v : Served) → o ≡ refused n → finding (v .kernel) ≡ n → n ≢ 0 → (o ≡ outcome v) × (b ≡ left v b)
 refuses b o n v p e z = (p ∙ sym (outcome-found v n e z), sym (left-found v b (λ w. z (sym e ∙ w))))
 
--- more that is found makes no difference
-found-more : (f v w o : Bool) → foundOf f (v or o) ≢ 0 → foundOf f ((v or w) or o) ≡ foundOf f (v or o)
+-- more that is found makes no difference; w is v, or true
+pub found-more : (f v w o : Bool) → (w ≡ false → v ≡ false) → foundOf f (v or o) ≢ 0 → foundOf f (w or o) ≡ foundOf f (v or o)
 unfolding _or_
-found-more true v w o z = refl
-found-more false true w o z = refl
-found-more false false true true z = refl
-found-more false false true false z = absurd (z refl)
-found-more false false false o z = refl
+found-more true v w o s z = refl
+found-more false true true o s z = refl
+found-more false true false o s z = false-true (sym (s refl))
+found-more false false true true s z = refl
+found-more false false true false s z = absurd (z refl)
+found-more false false false o s z = refl
 
 -- the handles are those before
 pub same-handles : (q k : Kernel) (s : ObjectStore) → q ≡ withObjects k s → outOfHandles? k ≡ false → outOfHandles? q ≡ false
@@ -124,7 +131,7 @@ module _ (b : List ℕ) (r : Registers) (tick : ℕ) where
     pseudo-finding = ap (λ (v : Served). finding (v .kernel)) (wait1-is j r tick) ∙ wait1-finding b (x .store) (x .object .0) r tick
 
     pub pseudo-refused : a .found ≢ 0 → finding (call .kernel) ≡ a .found
-    pseudo-refused z = pseudo-finding ∙ found-more (x .store .full) (x .store .overflow) (over (x .store) (x .object .0)) (outOfHandles? j) (λ w. z (opened-finding ∙ w)) ∙ sym opened-finding
+    pseudo-refused z = pseudo-finding ∙ found-more (x .store .full) (x .store .overflow) (x .store .overflow or over (x .store) (x .object .0)) (outOfHandles? j) (λ e. or-false (x .store .overflow) (over (x .store) (x .object .0)) e .0) (λ w. z (opened-finding ∙ w)) ∙ sym opened-finding
 
     module _ (z : a .found ≡ 0) (s : sound? e ≡ true) (q : decBlock e ≡ withObjects caught (x .store)) where
       kept : KeptOk (x .store)

@@ -1,4 +1,7 @@
 -- What the calls that wait do in the block.
-pub mod Opens
+pub mod Waits
 pub mod Named
+pub mod Opens
+pub mod Room
+pub mod Near
 pub mod Over

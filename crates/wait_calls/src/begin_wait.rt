@@ -1,10 +1,12 @@
 // The current thread begins to wait on a list of objects, which it holds while it waits.
-use blocking::waits;
 use object::store;
 use rows::read;
 use rows::write;
+use types::thread::Thread;
 use types::thread::ThreadOption;
+use types::thread::TickOption;
 use types::thread::WaitSyscall;
+use units::Nanos;
 use units::ObjectId;
 ghost use mathlib.Core.Path.{_≡_};
 ghost use mathlib.Core.Bool.{true};
@@ -13,9 +15,28 @@ ghost use Rattle.block.specs.Block.{encBlock, decBlock};
 ghost use Rattle.sound.specs.View.{ids};
 ghost use Rattle.sound.specs.Question.{sound?};
 ghost use Rattle.object.specs.Store.{addRefs};
+ghost use Rattle.thread.specs.Thread.{withResult};
 ghost use Rattle.svc.specs.Call.{withObjects};
 ghost use Rattle.rows.specs.Holds.{Holds};
-ghost use Rattle.blocking.specs.Waits.{waitOnIn};
+ghost use Rattle.svc.specs.Waits as def;
+ghost use Rattle.wait_calls.specs.Waits.{waitOnIn};
+
+// A negative time waits for good.
+fn wait_time(nanos: u64) -> TickOption
+    ensures { λ r. ⌜ r ≡ def.waitTime nanos ⌝ }
+{
+    if svc::read::negative(nanos) {
+        return TickOption::NoTick;
+    }
+    TickOption::SomeTick(units::nanos_to_ticks(Nanos(nanos)))
+}
+
+fn with_call(t: Thread, call: WaitSyscall) -> Thread
+    ensures { λ r. ⌜ r ≡ withResult t (t .«wait_result») call ⌝ }
+{
+    let result = t.wait_result;
+    thread::thread::with_result(t, result, call)
+}
 
 // One holder more for each of the first n. An object may be listed twice, so each slot is read after the last write.
 fn hold_list(block: &mut [u8], l: [ObjectId; 8], n: u32)
@@ -53,10 +74,10 @@ pub fn begin_wait(
     ensures { λ _. ⌜ now (block .exit) ≡ encBlock (waitOnIn (decBlock (now (block .entry))) c l n all nanos tick call .kernel) ⌝ }
 {
     let t = read::thread_at(block, c);
-    let time = waits::wait_time(nanos);
+    let time = wait_time(nanos);
     let wake = begin::wake_tick(time, tick);
     let waiting = begin::waiting(t, l, n, all, wake);
-    let noted = waits::with_call(waiting, call);
+    let noted = with_call(waiting, call);
     hold_list(block, l, n);
     write::put_thread(block, c, noted);
 }

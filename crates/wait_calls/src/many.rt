@@ -1,100 +1,63 @@
 // `wait_synchronization_n` (svc.rs).
-use crate::before;
 use crate::begin_wait;
+use crate::handles;
+use crate::near;
+use crate::room;
 use crate::take;
-use blocking::wait_n;
 use outcome::Outcome;
 use pass::IndexOption;
 use rows::read;
 use svc::Registers;
 use thread::places;
+use timer_calls::caught;
 use types::thread::ThreadOption;
 use types::thread::WaitSyscall;
 use units::ObjectId;
 use wait::look;
 ghost use mathlib.Core.Path.{_≡_};
-ghost use mathlib.Core.Bool.{true, false};
+ghost use mathlib.Core.Bool.{true, false, not};
+ghost use mathlib.Core.Logic.{_⊎_};
+ghost use lib.Dec.{eqb};
 ghost use lib.ListN.{length, take, getD};
 ghost use Rattle.laws.specs.Logic.{pick};
-ghost use Rattle.types.specs.declared.object.ObjectStore.{ObjectStore};
 ghost use Rattle.block.specs.Block.{decBlock};
 ghost use Rattle.sound.specs.View.{ids};
 ghost use Rattle.sound.specs.Question.{sound?};
 ghost use Rattle.pass.specs.Signal as sig;
 ghost use Rattle.svc.specs.Call.{gives, withObjects};
 ghost use Rattle.svc.specs.Waits as def;
-ghost use Rattle.lent.specs.Operations.{outOfHandles?};
+ghost use Rattle.lent.specs.Operations.{finding, outOfHandles?};
 ghost use Rattle.outcome.specs.Outcome.{outcome, left};
-ghost use Rattle.blocking.specs.Waits.{takeIn};
-ghost use Rattle.wait_calls.specs.Opens.{Opens};
+ghost use Rattle.wait_calls.specs.Waits.{takeIn, waitIn};
+ghost use Rattle.wait_calls.specs.Opens.{Ready};
+ghost use Rattle.wait_calls.specs.Room.{lacksRoom};
 
-// The objects of a list of handles, whether every handle names one, and whether none is a pseudo-handle.
-pub struct Opened {
-    pub objects: [ObjectId; 8],
-    pub known: bool,
-    pub plain: bool,
-}
-
-// The first n handles, in order, up to the first that is unknown or a pseudo-handle. What the slots hold makes no difference,
-// so the objects are the same after timers fire.
-fn open_list(block: &[u8], words: [u32; 8], n: u32) -> Opened
-    requires { ⌜ length (now block) ≡ 16384 ⌝ }
-    ensures { λ r. ⌜ ((r .plain ≡ true) → (s : ObjectStore) → Opens (withObjects (decBlock (now (block .entry))) s) (take n words) r) ⌝ }
-    ensures { λ _. ⌜ length words ≡ 8 ⌝ }
+// The object at a place of the first n; none past them.
+fn object_at(l: [ObjectId; 8], n: u32, i: u32) -> ObjectId
+    ensures { λ r. ⌜ r .0 ≡ getD (take n (ids l)) i 0 ⌝ }
 {
-    let none = ObjectId(0);
-    let mut l = [none; 8];
-    let mut i: usize = 0;
-    while i < 8 {
-        if n <= i as u32 {
-            return Opened {
-                objects: l,
-                known: true,
-                plain: true,
-            };
-        }
-        let h = words[i];
-        if svc::read::is_pseudo(h) {
-            return Opened {
-                objects: l,
-                known: false,
-                plain: false,
-            };
-        }
-        let o = read::object_of(block, h);
-        if o.0 == 0 {
-            return Opened {
-                objects: l,
-                known: false,
-                plain: true,
-            };
-        }
-        l[i] = o;
-        i += 1;
+    if n <= i {
+        return ObjectId(0);
     }
-    Opened {
-        objects: l,
-        known: true,
-        plain: true,
+    if 8 <= i {
+        return ObjectId(0);
     }
+    l[i as usize]
 }
 
-// Every object is taken, one after the other. The store is taken out for it: what is found at the last must leave the first
-// as it was, and an object may be listed twice. Only slots change, so only they are put back.
+// Every object is taken, one after the other. With a finding those before are taken already.
 fn take_all(block: &mut [u8], c: u32, l: [ObjectId; 8], n: u32, i: u32) -> Outcome
     requires { ⌜ length (now block) ≡ 16384 ⌝ }
     requires { ⌜ sound? (now block) ≡ true ⌝ }
     requires { ⌜ outOfHandles? (decBlock (now block)) ≡ false ⌝ }
+    requires { ⌜ decBlock (now block) .«current_thread» ≡ ThreadOption.SomeThread c ⌝ }
     ensures { λ r. ⌜ r ≡ outcome (gives (withObjects (decBlock (now (block .entry))) (sig.acquires (decBlock (now (block .entry)) .objects) (take n (ids l)) c)) i) ⌝ }
-    ensures { λ _. ⌜ now (block .exit) ≡ left (gives (withObjects (decBlock (now (block .entry))) (sig.acquires (decBlock (now (block .entry)) .objects) (take n (ids l)) c)) i) (now (block .entry)) ⌝ }
+    ensures { λ _. ⌜ ((finding (withObjects (decBlock (now (block .entry))) (sig.acquires (decBlock (now (block .entry)) .objects) (take n (ids l)) c)) ≡ 0) → now (block .exit) ≡ left (gives (withObjects (decBlock (now (block .entry))) (sig.acquires (decBlock (now (block .entry)) .objects) (take n (ids l)) c)) i) (now (block .entry))) ⌝ }
 {
-    let s = block::parts::get_store(block);
-    let taken = acquire::acquire_list(s, l, n, c);
-    if taken.overflow {
-        return outcome::refused(8);
+    let found = take::take_list(block, l, n, c);
+    if found != 0 {
+        return outcome::refused(found);
     }
-    let slots = taken.slots;
-    block::slot::put_slots(block, 5248, slots);
     outcome::gives(i)
 }
 
@@ -103,13 +66,14 @@ fn take_at(block: &mut [u8], c: u32, l: [ObjectId; 8], n: u32, all: bool, i: u32
     requires { ⌜ length (now block) ≡ 16384 ⌝ }
     requires { ⌜ sound? (now block) ≡ true ⌝ }
     requires { ⌜ outOfHandles? (decBlock (now block)) ≡ false ⌝ }
+    requires { ⌜ decBlock (now block) .«current_thread» ≡ ThreadOption.SomeThread c ⌝ }
     ensures { λ r. ⌜ r ≡ outcome (gives (withObjects (decBlock (now (block .entry))) (pick all (sig.acquires (decBlock (now (block .entry)) .objects) (take n (ids l)) c) (sig.acquire (decBlock (now (block .entry)) .objects) (getD (take n (ids l)) i 0) c))) i) ⌝ }
-    ensures { λ _. ⌜ now (block .exit) ≡ left (gives (withObjects (decBlock (now (block .entry))) (pick all (sig.acquires (decBlock (now (block .entry)) .objects) (take n (ids l)) c) (sig.acquire (decBlock (now (block .entry)) .objects) (getD (take n (ids l)) i 0) c))) i) (now (block .entry)) ⌝ }
+    ensures { λ _. ⌜ (((all ≡ false) ⊎ (finding (withObjects (decBlock (now (block .entry))) (pick all (sig.acquires (decBlock (now (block .entry)) .objects) (take n (ids l)) c) (sig.acquire (decBlock (now (block .entry)) .objects) (getD (take n (ids l)) i 0) c))) ≡ 0)) → now (block .exit) ≡ left (gives (withObjects (decBlock (now (block .entry))) (pick all (sig.acquires (decBlock (now (block .entry)) .objects) (take n (ids l)) c) (sig.acquire (decBlock (now (block .entry)) .objects) (getD (take n (ids l)) i 0) c))) i) (now (block .entry))) ⌝ }
 {
     if all {
         return take_all(block, c, l, n, i);
     }
-    let o = wait_n::object_at(l, n, i);
+    let o = object_at(l, n, i);
     let found = take::take(block, o, c);
     if found != 0 {
         return outcome::refused(found);
@@ -133,7 +97,7 @@ fn wait_at(
     requires { ⌜ outOfHandles? (decBlock (now block)) ≡ false ⌝ }
     requires { ⌜ decBlock (now block) .«current_thread» ≡ ThreadOption.SomeThread c ⌝ }
     ensures { λ r. ⌜ r ≡ outcome (takeIn found (decBlock (now (block .entry))) c l n all nanos tick) ⌝ }
-    ensures { λ _. ⌜ now (block .exit) ≡ left (takeIn found (decBlock (now (block .entry))) c l n all nanos tick) (now (block .entry)) ⌝ }
+    ensures { λ _. ⌜ (((all ≡ false) ⊎ (finding (takeIn found (decBlock (now (block .entry))) c l n all nanos tick .kernel) ≡ 0)) → now (block .exit) ≡ left (takeIn found (decBlock (now (block .entry))) c l n all nanos tick) (now (block .entry))) ⌝ }
 {
     match found {
         IndexOption::NoIndex => {
@@ -156,17 +120,102 @@ fn wait_at(
     }
 }
 
-fn by_value(block: &mut [u8], r: Registers, words: [u32; 8], n: u32, tick: u64) -> Outcome
+// The call once the timers have fired and the handles are open: they name the first n of l, unless one is unknown.
+fn wait_list(
+    block: &mut [u8],
+    r: Registers,
+    l: [ObjectId; 8],
+    known: bool,
+    n: u32,
+    tick: u64,
+) -> Outcome
     requires { ⌜ length (now block) ≡ 16384 ⌝ }
+    requires { ⌜ sound? (now block) ≡ true ⌝ }
+    requires { ⌜ outOfHandles? (decBlock (now block)) ≡ false ⌝ }
+    ensures { λ o. ⌜ o ≡ outcome (waitIn (decBlock (now (block .entry))) l known n r tick) ⌝ }
+    ensures { λ _. ⌜ (((not (eqb (r .r3) 0) ≡ false) ⊎ (finding (waitIn (decBlock (now (block .entry))) l known n r tick .kernel) ≡ 0)) → now (block .exit) ≡ left (waitIn (decBlock (now (block .entry))) l known n r tick) (now (block .entry))) ⌝ }
+{
+    if !known {
+        return outcome::answers(16);
+    }
+    let current = read::current(block);
+    if types::thread::thread_flag(current) == 0 {
+        return outcome::done();
+    }
+    let c = types::thread::thread_value(current);
+    let all = r.r3 != 0;
+    let nanos = svc::read::pair(r.r0, r.r4);
+    let found = look::satisfied_at(block, c, all, l, n);
+    wait_at(block, found, c, l, n, all, nanos, tick)
+}
+
+// Timers that came due fire, the handles are opened unless all are known, then the thread waits. Where the wait finds something the
+// block may be left with that done; l and known are what the handles name before.
+fn wait_caught(
+    block: &mut [u8],
+    r: Registers,
+    words: [u32; 8],
+    n: u32,
+    l: [ObjectId; 8],
+    known: bool,
+    fires: bool,
+    tick: u64,
+) -> Outcome
+    requires { ⌜ length (now block) ≡ 16384 ⌝ }
+    requires { ⌜ sound? (now block) ≡ true ⌝ }
+    requires { ⌜ Ready (decBlock (now block)) words n l known fires tick ⌝ }
+    ensures { λ o. ⌜ o ≡ outcome (def.waitSynchronizationN (decBlock (now (block .entry))) r (take n words) tick) ⌝ }
+    ensures { λ _. ⌜ ((((not (eqb (r .r3) 0) ≡ false) × ((fires ≡ false) × (known ≡ true))) ⊎ (finding (def.waitSynchronizationN (decBlock (now (block .entry))) r (take n words) tick .kernel) ≡ 0)) → now (block .exit) ≡ left (def.waitSynchronizationN (decBlock (now (block .entry))) r (take n words) tick) (now (block .entry))) ⌝ }
+{
+    caught::catch_up_if(block, fires, tick);
+    let m = places::least_of(n, 8);
+    if known {
+        return wait_list(block, r, l, true, m, tick);
+    }
+    let x = handles::open_list(block, words, n);
+    let objects = x.objects;
+    wait_list(block, r, objects, x.known, m, tick)
+}
+
+// The same with the block saved, and put back where the wait finds something.
+fn wait_saved(
+    block: &mut [u8],
+    r: Registers,
+    words: [u32; 8],
+    n: u32,
+    l: [ObjectId; 8],
+    known: bool,
+    fires: bool,
+    tick: u64,
+) -> Outcome
+    requires { ⌜ length (now block) ≡ 16384 ⌝ }
+    requires { ⌜ sound? (now block) ≡ true ⌝ }
+    requires { ⌜ Ready (decBlock (now block)) words n l known fires tick ⌝ }
     ensures { λ o. ⌜ o ≡ outcome (def.waitSynchronizationN (decBlock (now (block .entry))) r (take n words) tick) ⌝ }
     ensures { λ _. ⌜ now (block .exit) ≡ left (def.waitSynchronizationN (decBlock (now (block .entry))) r (take n words) tick) (now (block .entry)) ⌝ }
 {
-    let k = block::decode(block);
-    outcome::finish(block, wait_n::wait_synchronization_n(k, r, words, n, tick))
+    let mut saved = [0u8; 16384];
+    codec::copy(&mut saved, 0, block);
+    let o = wait_caught(block, r, words, n, l, known, fires, tick);
+    if o.found != 0 {
+        codec::copy(block, 0, &saved);
+    }
+    o
 }
 
-// r3 whether for all, r0 and r4 nanoseconds; the handles are the first n words, at most eight.
-// A list with a pseudo-handle goes by value: its object may have to be made. So does a finding while timers are due.
+// Whether there is no slot for an object that the handles make; known handles make none.
+fn full_if(block: &[u8], words: [u32; 8], n: u32, known: bool) -> bool
+    requires { ⌜ length (now block) ≡ 16384 ⌝ }
+    ensures { λ r. ⌜ r ≡ pick known false (lacksRoom (decBlock (now (block .entry)) .«current_thread») (decBlock (now (block .entry)) .handles) (decBlock (now (block .entry)) .objects) (take n words)) ⌝ }
+{
+    if known {
+        return false;
+    }
+    room::lacks_room(block, words, n)
+}
+
+// r3 whether for all, r0 and r4 nanoseconds; the handles are the first n words, at most eight. What is found before the wait is looked
+// for before the first write, since a finding must leave the block as it was.
 pub fn wait_synchronization_n(
     block: &mut [u8],
     r: Registers,
@@ -179,25 +228,17 @@ pub fn wait_synchronization_n(
     ensures { λ o. ⌜ o ≡ outcome (def.waitSynchronizationN (decBlock (now (block .entry))) r (take n words) tick) ⌝ }
     ensures { λ _. ⌜ now (block .exit) ≡ left (def.waitSynchronizationN (decBlock (now (block .entry))) r (take n words) tick) (now (block .entry)) ⌝ }
 {
-    let x = open_list(block, words, n);
-    if !x.plain {
-        return by_value(block, r, words, n, tick);
-    }
+    let x = handles::look_up(block, words, n);
     let l = x.objects;
-    let m = places::least_of(n, 8);
-    let all = r.r3 != 0;
-    if !before::ready(block, l, m, all, tick) {
-        return by_value(block, r, words, n, tick);
+    let known = x.known;
+    let full = full_if(block, words, n, known);
+    let fires = due::timer_due(block, tick);
+    let found = caught::found_before(block, full, fires, tick);
+    if found != 0 {
+        return outcome::refused(found);
     }
-    if !x.known {
-        return outcome::answers(16);
+    if near::may_find(block, l, places::least_of(n, 8), r.r3 != 0, fires, known) {
+        return wait_saved(block, r, words, n, l, known, fires, tick);
     }
-    let current = read::current(block);
-    if types::thread::thread_flag(current) == 0 {
-        return outcome::done();
-    }
-    let c = types::thread::thread_value(current);
-    let nanos = svc::read::pair(r.r0, r.r4);
-    let found = look::satisfied_at(block, c, all, l, m);
-    wait_at(block, found, c, l, m, all, nanos, tick)
+    wait_caught(block, r, words, n, l, known, fires, tick)
 }

@@ -1,30 +1,22 @@
 // What a wait that succeeds takes of an object.
-use crate::look;
 use rows::read;
 use rows::write;
+use types::thread::ThreadOption;
 use units::ObjectId;
+use wait::look;
 ghost use mathlib.Core.Path.{_≡_};
 ghost use mathlib.Core.Bool.{true, false};
-ghost use lib.ListN.{length};
-ghost use Rattle.block.specs.Block.{decBlock};
-ghost use Rattle.sound.specs.View.{objectAt};
+ghost use lib.ListN.{length, take};
+ghost use Rattle.block.specs.Block.{encBlock, decBlock};
+ghost use Rattle.sound.specs.View.{ids, objectAt};
 ghost use Rattle.sound.specs.Question.{sound?};
-ghost use Rattle.pass.specs.Signal.{acquire, acquireOver};
+ghost use Rattle.pass.specs.Signal.{acquire, acquires};
 ghost use Rattle.svc.specs.Call.{done, withObjects};
 ghost use Rattle.lent.specs.Operations.{finding, outOfHandles?};
 ghost use Rattle.outcome.specs.Outcome.{left};
 ghost use Rattle.wait_calls.specs.Over.{overNow};
 
-// Whether a wait finds the count of an object too large to take of it.
-pub fn over(block: &[u8], o: ObjectId) -> bool
-    requires { ⌜ length (now block) ≡ 16384 ⌝ }
-    ensures { λ r. ⌜ r ≡ acquireOver (objectAt (decBlock (now (block .entry)) .objects) (o .0)) ⌝ }
-{
-    let x = read::slot_at(block, o.0);
-    acquire::over_after(false, x)
-}
-
-// Whether a wait of the current thread succeeds and finds it so.
+// Whether a wait of the current thread on the object succeeds and finds its count too large.
 pub fn over_now(block: &[u8], o: ObjectId) -> bool
     requires { ⌜ length (now block) ≡ 16384 ⌝ }
     ensures { λ r. ⌜ r ≡ overNow (decBlock (now (block .entry)) .«current_thread») (decBlock (now (block .entry)) .threads) (objectAt (decBlock (now (block .entry)) .objects) (o .0)) ⌝ }
@@ -55,5 +47,29 @@ pub fn take(block: &mut [u8], o: ObjectId, w: u32) -> u32
     }
     let y = acquire::acquired_slot(x, w);
     write::put_slot(block, o.0, y);
+    0
+}
+
+// The first n, one after the other, each with what those before left. What question 8 finds, 0 for nothing; with a finding those before it
+// are taken already.
+pub fn take_list(block: &mut [u8], l: [ObjectId; 8], n: u32, w: u32) -> u32
+    requires { ⌜ length (now block) ≡ 16384 ⌝ }
+    requires { ⌜ sound? (now block) ≡ true ⌝ }
+    requires { ⌜ outOfHandles? (decBlock (now block)) ≡ false ⌝ }
+    requires { ⌜ decBlock (now block) .«current_thread» ≡ ThreadOption.SomeThread w ⌝ }
+    ensures { λ f. ⌜ f ≡ finding (withObjects (decBlock (now (block .entry))) (acquires (decBlock (now (block .entry)) .objects) (take n (ids l)) w)) ⌝ }
+    ensures { λ f. ⌜ ((f ≡ 0) → now (block .exit) ≡ encBlock (withObjects (decBlock (now (block .entry))) (acquires (decBlock (now (block .entry)) .objects) (take n (ids l)) w))) ⌝ }
+{
+    let mut i: usize = 0;
+    while i < 8 {
+        if n <= i as u32 {
+            return 0;
+        }
+        let found = take(block, l[i], w);
+        if found != 0 {
+            return found;
+        }
+        i += 1;
+    }
     0
 }

@@ -1,18 +1,16 @@
-use mathlib.Core.Path.{ap, _∙_}
+use mathlib.Core.Path.{sym, _∙_}
 use lib.ListN.{take}
-use Rattle.types.specs.declared.object.ObjectStore.{ObjectStore}
+use Rattle.block.specs.Block.{decBlock}
 use Rattle.sound.specs.View.{ids}
 use Rattle.pass.specs.Signal.{acquires}
-use Rattle.wait_calls.proofs.Slots.{all-over, all-fits}
+use Rattle.svc.specs.Call.{gives, withObjects}
+use Rattle.outcome.specs.Outcome.{outcome-0, outcome-found, left-0}
 use borrow.Author.Needs.{needs}
 use Rattle.wait_calls.proofs.many.take_all.Statement.{statement}
 use Rattle.wait_calls.proofs.many.take_all.Tie as tie
 
-get-store-requires : tie.Need-get-store-requires
-get-store-requires c κs = search needs
-
-acquire-list-requires : tie.Need-acquire-list-requires
-acquire-list-requires c κs = search needs
+take-list-requires : tie.Need-take-list-requires
+take-list-requires c κs = search needs
 
 refused-requires : tie.Need-refused-requires
 refused-requires c κs = search needs
@@ -21,12 +19,12 @@ same-length : tie.Need-same-length
 same-length c = search needs
 
 returns : tie.Need-returns
-returns c = let a = c .before .before .before .before .before .before .args in
-    let f = all-over (a .block .now) (c .before .before .before .before .before .before .pre .1 .0) (c .before .before .before .before .before .before .pre .1 .1) (take (a .n) (ids (a .l))) (a .c) (a .i) (c .before .before .acquire-list .result) (c .before .before .acquire-list .ensures ∙ ap (λ (s : ObjectStore). acquires s (take (a .n) (ids (a .l))) (a .c)) (c .before .before .before .get-store .ensures)) (c .before .if1 .taken) in
-    (c .refused .ensures ∙ f .0, f .1)
-
-put-slots-requires : tie.Need-put-slots-requires
-put-slots-requires c κs = search needs
+returns c =
+    let a = c .before .before .before .before .before .before .before .args in
+    let b = a .block .now in
+    let k = decBlock b in
+    let v = gives (withObjects k (acquires (k .objects) (take (a .n) (ids (a .l))) (a .c))) (a .i) in
+    (c .refused .ensures ∙ sym (outcome-found v (c .before .before .before .before .take-list .result) (sym (c .before .before .before .before .take-list .ensures .0)) (c .before .if1 .taken)), λ z. absurd (c .before .if1 .taken (c .before .before .before .before .take-list .ensures .0 ∙ z)))
 
 gives-requires : tie.Need-gives-requires
 gives-requires c κs = search needs
@@ -35,20 +33,22 @@ same-length-2 : tie.Need-same-length-2
 same-length-2 c = search needs
 
 returns-2 : tie.Need-returns-2
-returns-2 c = let a = c .before .before .before .before .before .before .before .before .before .before .before .args in
-    let f = all-fits (a .block .now) (c .before .before .before .before .before .before .before .before .before .before .before .pre .1 .0) (c .before .before .before .before .before .before .before .before .before .before .before .pre .1 .1) (take (a .n) (ids (a .l))) (a .c) (a .i) (c .before .before .before .before .before .before .before .acquire-list .result) (c .before .before .before .before .before .before .before .acquire-list .ensures ∙ ap (λ (s : ObjectStore). acquires s (take (a .n) (ids (a .l))) (a .c)) (c .before .before .before .before .before .before .before .before .get-store .ensures)) (c .before .before .before .before .before .before .if1 .left) (c .before .before .before .put-slots .ensures .1) in
-    (c .gives .ensures ∙ f .0, c .before .before .before .put-slots .ensures .0 ∙ f .1)
+returns-2 c =
+    let a = c .before .before .before .before .before .before .before .args in
+    let b = a .block .now in
+    let k = decBlock b in
+    let v = gives (withObjects k (acquires (k .objects) (take (a .n) (ids (a .l))) (a .c))) (a .i) in
+    let f = sym (c .before .before .before .before .take-list .ensures .0) ∙ c .before .if1 .left in
+    (c .gives .ensures ∙ sym (outcome-0 v f), λ z. c .before .before .before .before .take-list .ensures .1 (c .before .if1 .left) ∙ sym (left-0 v b f))
 
 pub take-all-spec : {M : Type 1} → statement M
 take-all-spec =
     tie.close
     (tie.spec
-    get-store-requires
-    acquire-list-requires
+    take-list-requires
     refused-requires
     same-length
     returns
-    put-slots-requires
     gives-requires
     same-length-2
     returns-2)

@@ -3,10 +3,9 @@ use borrow.Author.Tests.{eq-eqb, ne-eqb}
 use Rattle.types.specs.declared.thread.WaitSyscall.the-variants.{WaitSynchronizationN}
 use Rattle.block.specs.Block.{decBlock}
 use Rattle.svc.specs.Call.{answers}
-use Rattle.blocking.specs.Waits.{waitOnIn}
-use Rattle.timer_calls.proofs.Found.{leaves}
+use Rattle.wait_calls.specs.Waits.{waitOnIn}
 use Rattle.wait_calls.proofs.Begins.{begun-none}
-use Rattle.wait_calls.proofs.Ways.{stays}
+use Rattle.wait_calls.proofs.Ways.{leaves, stays}
 use borrow.Author.Needs.{needs}
 use Rattle.wait_calls.proofs.many.wait_at.Statement.{statement}
 use Rattle.wait_calls.proofs.many.wait_at.Tie as tie
@@ -18,8 +17,12 @@ answers-requires : tie.Need-answers-requires
 answers-requires c κs = search needs
 
 returns : tie.Need-returns
-returns c = let k = decBlock (c .before .before .before .before .before .args .block .now) in
-    rw (c .before .before .enum-told .given .1, eq-eqb _ 0 (c .before .if1 .taken)) (stays (c .before .before .before .before .before .args .block .now) (c .before .before .before .before .before .pre .1 .0) (c .before .before .before .before .before .pre .1 .1 .0) _ (answers 17 k) (answers 17 k) refl refl (c .answers .ensures))
+returns c =
+    let a = c .before .before .before .before .before .args in
+    let b = a .block .now in
+    let k = decBlock b in
+    let e = stays b (c .before .before .before .before .before .pre .1 .0) (c .before .before .before .before .before .pre .1 .1 .0) _ (answers 17 k) (answers 17 k) refl refl (c .answers .ensures) in
+    rw (c .before .before .enum-told .given .1, eq-eqb _ 0 (c .before .if1 .taken)) (e .0, λ z. e .1)
 
 begin-wait-requires : tie.Need-begin-wait-requires
 begin-wait-requires c κs = search needs
@@ -37,10 +40,13 @@ same-length : tie.Need-same-length
 same-length c = search needs
 
 returns-2 : tie.Need-returns-2
-returns-2 c = let a = c .before .before .before .before .before .before .before .before .before .args in
-    let v = waitOnIn (decBlock (a .block .now)) (a .c) (a .l) (a .n) (a .all) (a .nanos) (a .tick) WaitSynchronizationN in
-    rw (c .before .before .before .before .before .before .enum-told .given .1, ne-eqb _ 0 (c .before .before .before .before .before .if1 .left))
-    (leaves (a .block .now) _ _ v v refl (begun-none (a .block .now) (c .before .before .before .before .before .before .before .before .before .pre .1 .1 .0) (a .c) (a .l) (a .n) (a .all) (a .nanos) (a .tick) WaitSynchronizationN (c .before .before .before .before .before .before .before .before .before .pre .1 .1 .1)) (c .silent .ensures) (c .before .before .before .begin-wait .ensures))
+returns-2 c =
+    let a = c .before .before .before .before .before .before .before .before .before .args in
+    let b = a .block .now in
+    let k = decBlock b in
+    let v = waitOnIn k (a .c) (a .l) (a .n) (a .all) (a .nanos) (a .tick) WaitSynchronizationN in
+    let e = leaves b _ _ v v refl (begun-none b (c .before .before .before .before .before .before .before .before .before .pre .1 .1 .0) (a .c) (a .l) (a .n) (a .all) (a .nanos) (a .tick) WaitSynchronizationN (c .before .before .before .before .before .before .before .before .before .pre .1 .1 .1)) (c .silent .ensures) (c .before .before .before .begin-wait .ensures) in
+    rw (c .before .before .before .before .before .before .enum-told .given .1, ne-eqb _ 0 (c .before .before .before .before .before .if1 .left)) (e .0, λ z. e .1)
 
 same-length-2 : tie.Need-same-length-2
 same-length-2 c = search needs

@@ -9,10 +9,9 @@ use Rattle.pass.specs.Signal.{isSignaled}
 use Rattle.pass.specs.Asks.{padded}
 use Rattle.svc.specs.Call.{answers}
 use Rattle.outcome.specs.Outcome.{outcome-0, outcome-found}
-use Rattle.blocking.specs.Waits.{waitOnIn}
-use Rattle.timer_calls.proofs.Found.{leaves}
+use Rattle.wait_calls.specs.Waits.{waitOnIn}
 use Rattle.wait_calls.proofs.Begins.{begun-none}
-use Rattle.wait_calls.proofs.Ways.{stays}
+use Rattle.wait_calls.proofs.Ways.{leaves, stays}
 use borrow.Author.Needs.{needs}
 use Rattle.wait_calls.proofs.one.wait_one.Statement.{statement}
 use Rattle.wait_calls.proofs.one.wait_one.Tie as tie

@@ -1,5 +1,4 @@
-use Rattle.wait_calls.proofs.Fits.{moves}
-use Rattle.wait_calls.proofs.Ways.{refuses, pseudo-refused, pseudo-none, pseudo-handles, pseudo-is}
+use Rattle.wait_calls.proofs.Ways.{moves, refuses, pseudo-refused, pseudo-none, pseudo-handles, pseudo-is}
 use borrow.Author.Needs.{needs}
 use Rattle.wait_calls.proofs.one.wait_pseudo.Statement.{statement}
 use Rattle.wait_calls.proofs.one.wait_pseudo.Tie as tie

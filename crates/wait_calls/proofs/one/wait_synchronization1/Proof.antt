@@ -8,8 +8,7 @@ use Rattle.svc.specs.Timers.{caughtUp}
 use Rattle.lent.specs.Operations.{outOfHandles?}
 use Rattle.outcome.specs.Findings.{none-found}
 use Rattle.wait_calls.specs.Named.{wait1Opened}
-use Rattle.wait_calls.proofs.Fits.{moves}
-use Rattle.wait_calls.proofs.Ways.{refuses, same-handles, plain-is, plain-over, plain-found}
+use Rattle.wait_calls.proofs.Ways.{moves, refuses, same-handles, plain-is, plain-over, plain-found}
 use borrow.Author.Needs.{needs}
 use Rattle.wait_calls.proofs.one.wait_synchronization1.Statement.{statement}
 use Rattle.wait_calls.proofs.one.wait_synchronization1.Tie as tie

@@ -1,0 +1,132 @@
+use borrow.Author.Needs.{needs}
+use mathlib.Core.Path.{_≡_, subst}
+use mathlib.Core.List.{List}
+use Prim.Native.Nat.{ℕ, _+_, _-_, _≤_}
+use native.Mathlib.Omega.{arith}
+use lib.ListN.{length, take, drop, getD}
+use Rattle.block.specs.Block.{decBlock}
+use Rattle.sound.specs.View.{ids}
+use Rattle.object.proofs.Laws.{list-at, list-end, list-over}
+use Rattle.wait_calls.proofs.Taking.{Taking, taking-none, taking-handles, taking-end, taking-more, taking-found}
+use Rattle.wait_calls.proofs.take.take_list.Statement.{statement}
+use Rattle.wait_calls.proofs.take.take_list.Tie as tie
+
+abbrev Inv-loop : tie.InvT-loop
+Inv-loop block₀ n w l i₀ block i = (i ≤ 8) × ((length block ≡ 16384) × Taking (decBlock block₀) (take n (ids l)) w block (drop i (take n (ids l))))
+
+abbrev μ-loop : tie.MeasureT-loop
+μ-loop block₀ n w l i₀ block i = 8 - i
+
+loop-holds : tie.Need-loop-holds Inv-loop μ-loop
+loop-holds c =
+    let a = c .before .args in
+    (search needs, (search needs, taking-none (a .block .now) (c .before .pre .1 .0) _ (a .w)))
+
+cast-if1 : tie.Need-cast-if1 Inv-loop μ-loop
+cast-if1 c = search needs
+
+same-length : tie.Need-same-length Inv-loop μ-loop
+same-length c = search needs
+
+returns : tie.Need-returns Inv-loop μ-loop
+returns c =
+    let l = c .before .before .loop in
+    let a = c .before .before .before .before .args in
+    let b = a .block .now in
+    let k = decBlock b in
+    let os = take (a .n) (ids (a .t2)) in
+    let out = c .before .before .before .before .pre .1 .1 .0 in
+    let cur = c .before .before .before .before .pre .1 .1 .1 in
+    let f = taking-end k os (a .w) out cur (l .block) (subst (λ (z : List ℕ). Taking k os (a .w) (l .block) z) (list-end (a .t2) (a .n) (l .i) (c .if1 .taken)) (l .inv .1 .1)) in
+    (f .0, λ z. f .1)
+
+mul-take : tie.Need-mul-take Inv-loop μ-loop
+mul-take c = search needs
+
+array-copy-out-take : tie.Need-array-copy-out-take Inv-loop μ-loop
+array-copy-out-take c = search needs
+
+take-requires : tie.Need-take-requires Inv-loop μ-loop
+take-requires c κs =
+    let l = c .before .before .before .before .loop in
+    let a = c .before .before .before .before .before .before .args in
+    let b = a .block .now in
+    let k = decBlock b in
+    let os = take (a .n) (ids (a .t2)) in
+    let out = c .before .before .before .before .before .before .pre .1 .1 .0 in
+    let cur = c .before .before .before .before .before .before .pre .1 .1 .1 in
+    (search needs, (l .inv .1 .1 .sound, taking-handles k os (a .w) out cur (l .block) _ (l .inv .1 .1)))
+
+same-length-2 : tie.Need-same-length-2 Inv-loop μ-loop
+same-length-2 c = search needs
+
+returns-2 : tie.Need-returns-2 Inv-loop μ-loop
+returns-2 c =
+    let l = c .before .before .before .before .before .before .before .before .loop in
+    let a = c .before .before .before .before .before .before .before .before .before .before .args in
+    let b = a .block .now in
+    let k = decBlock b in
+    let os = take (a .n) (ids (a .t2)) in
+    let out = c .before .before .before .before .before .before .before .before .before .before .pre .1 .1 .0 in
+    let cur = c .before .before .before .before .before .before .before .before .before .before .pre .1 .1 .1 in
+    let e = list-at (a .t2) (a .n) (l .i) (c .before .before .before .before .before .before .if1 .left) (omega (arith, c .before .before .before .before .before .before .before .before .before .before .good)) in
+    let o = getD (a .t2) (l .i) (record { 0 = 0 }) .0 in
+    let g = subst (λ (z : List ℕ). Taking k os (a .w) (l .block) z) e (l .inv .1 .1) in
+    let n = c .before .before .before .take .result in
+    (taking-found k os (a .w) out cur (l .block) o (drop (l .i + 1) os) g n (c .before .before .before .take .ensures .0) (c .if2 .taken), λ z. absurd (c .if2 .taken z))
+
+add-i : tie.Need-add-i Inv-loop μ-loop
+add-i c = search needs
+
+loop-less : tie.Need-loop-less Inv-loop μ-loop
+loop-less c = search needs
+
+loop-again : tie.Need-loop-again Inv-loop μ-loop
+loop-again c =
+    let l = c .before .before .before .before .before .before .before .before .loop in
+    let a = c .before .before .before .before .before .before .before .before .before .before .args in
+    let b = a .block .now in
+    let k = decBlock b in
+    let os = take (a .n) (ids (a .t2)) in
+    let out = c .before .before .before .before .before .before .before .before .before .before .pre .1 .1 .0 in
+    let cur = c .before .before .before .before .before .before .before .before .before .before .pre .1 .1 .1 in
+    let e = list-at (a .t2) (a .n) (l .i) (c .before .before .before .before .before .before .if1 .left) (omega (arith, c .before .before .before .before .before .before .before .before .before .before .good)) in
+    let o = getD (a .t2) (l .i) (record { 0 = 0 }) .0 in
+    let g = subst (λ (z : List ℕ). Taking k os (a .w) (l .block) z) e (l .inv .1 .1) in
+    (search needs, (search needs, taking-more k os (a .w) out cur (l .block) o (drop (l .i + 1) os) g (c .before .before .before .take .result) (c .before .before .before .take .ensures .0) (c .if2 .left) _ (c .before .before .before .take .ensures .1)))
+
+same-length-3 : tie.Need-same-length-3 Inv-loop μ-loop
+same-length-3 c = search needs
+
+returns-3 : tie.Need-returns-3 Inv-loop μ-loop
+returns-3 c =
+    let l = c .before .loop in
+    let a = c .before .before .before .args in
+    let b = a .block .now in
+    let k = decBlock b in
+    let os = take (a .n) (ids (a .t2)) in
+    let out = c .before .before .before .pre .1 .1 .0 in
+    let cur = c .before .before .before .pre .1 .1 .1 in
+    let f = taking-end k os (a .w) out cur (l .block) (subst (λ (z : List ℕ). Taking k os (a .w) (l .block) z) (list-over (a .t2) (a .n) (l .i) (omega (arith, c .before .before .before .good, c .loop-test))) (l .inv .1 .1)) in
+    (f .0, λ z. f .1)
+
+pub take-list-spec : {M : Type 1} → statement M
+take-list-spec =
+    tie.close
+    (tie.spec
+    Inv-loop
+    μ-loop
+    loop-holds
+    cast-if1
+    same-length
+    returns
+    mul-take
+    array-copy-out-take
+    take-requires
+    same-length-2
+    returns-2
+    add-i
+    loop-less
+    loop-again
+    same-length-3
+    returns-3)

@@ -1,0 +1,65 @@
+// Whether a wait on a list may find a count too large. What it finds is told only when it takes the objects, so where it may, the
+// block is saved first.
+use rows::read;
+use types::object::KObject;
+use units::ObjectId;
+ghost use mathlib.Core.Path.{_≡_};
+ghost use mathlib.Core.Bool.{true, false};
+ghost use mathlib.Core.Logic.{_⊎_};
+ghost use lib.ListN.{length, take};
+ghost use Rattle.block.specs.Block.{decBlock};
+ghost use Rattle.sound.specs.View.{ids};
+ghost use Rattle.wait_calls.specs.Near as def;
+
+// Whether the count may not fit after eight waits have taken of it.
+fn near(x: KObject) -> bool
+    ensures { λ r. ⌜ r ≡ def.near x ⌝ }
+{
+    match x {
+        KObject::Free(_n) => false,
+        KObject::Thread(_u) => false,
+        KObject::Event(_e) => false,
+        KObject::Mutex(m) => 4294967288 <= m.lock_count,
+        KObject::Semaphore(s) => 2147483648 <= s.count,
+        KObject::Timer(_t) => false,
+        KObject::AddressArbiter(_a) => false,
+        KObject::Process => false,
+        KObject::ResourceLimit => false,
+    }
+}
+
+// Of any of the first n.
+fn any_near(block: &[u8], l: [ObjectId; 8], n: u32) -> bool
+    requires { ⌜ length (now block) ≡ 16384 ⌝ }
+    ensures { λ r. ⌜ r ≡ def.anyNear (decBlock (now (block .entry)) .objects) (take n (ids l)) ⌝ }
+{
+    let mut i: usize = 0;
+    while i < 8 {
+        if n <= i as u32 {
+            return false;
+        }
+        let o = l[i];
+        let x = read::slot_at(block, o.0);
+        let v = x.object;
+        if near(v) {
+            return true;
+        }
+        i += 1;
+    }
+    false
+}
+
+// A wait for any on objects that are all there, with no timer due, writes nothing before it takes.
+pub fn may_find(block: &[u8], l: [ObjectId; 8], n: u32, all: bool, fires: bool, known: bool) -> bool
+    requires { ⌜ length (now block) ≡ 16384 ⌝ }
+    ensures { λ r. ⌜ ((r ≡ false) → (((all ≡ false) × ((fires ≡ false) × (known ≡ true))) ⊎ (def.anyNear (decBlock (now (block .entry)) .objects) (take n (ids l)) ≡ false))) ⌝ }
+{
+    if !all {
+        if !fires {
+            if known {
+                return false;
+            }
+        }
+    }
+    any_near(block, l, n)
+}
