@@ -1,3 +1,2 @@
--- What the contracts of `acquire` cite: `is_signaled` as it is computed, and which objects an acquire changes.
+-- What the contracts of `acquire` cite: `is_signaled` as it is computed.
 pub mod Looks
-pub mod Takes

@@ -1,6 +1,5 @@
 // Whether an object is signalled, and what a wait takes of it (`is_signaled`, `acquire`).
 use types::object::KObject;
-use types::object::ObjectStore;
 use types::object::Slot;
 use types::sync::Event;
 use types::sync::Mutex;
@@ -8,17 +7,13 @@ use types::sync::ResetType;
 use types::sync::Semaphore;
 use types::sync::Timer;
 use types::thread::ThreadOption;
-use units::ObjectId;
 ghost use mathlib.Core.Path.{_≡_};
 ghost use Prim.Native.Nat.{_+_};
 ghost use lib.Dec.{ltb};
-ghost use lib.ListN.{take};
 ghost use Rattle.laws.specs.Logic.{pick, _or_};
-ghost use Rattle.sound.specs.View.{ids};
 ghost use Rattle.object.specs.Slots.{withObject};
 ghost use Rattle.pass.specs.Signal as def;
 ghost use Rattle.acquire.specs.Looks.{threadNamed, signaledFor};
-ghost use Rattle.acquire.specs.Takes as takes;
 
 fn positive(n: u32) -> bool
     ensures { λ r. ⌜ r ≡ def.positive n ⌝ }
@@ -185,48 +180,6 @@ fn acquire_over(x: KObject) -> bool
     }
 }
 
-// Only a one-shot clears itself.
-fn clears(r: ResetType) -> bool
-    ensures { λ v. ⌜ v ≡ takes.clears r ⌝ }
-{
-    match r {
-        ResetType::OneShot => true,
-        ResetType::Sticky => false,
-        ResetType::Pulse => false,
-    }
-}
-
-fn clears_event(e: Event) -> bool
-    ensures { λ r. ⌜ r ≡ takes.clears (e .«reset_type») ⌝ }
-{
-    let kind = e.reset_type;
-    clears(kind)
-}
-
-fn clears_timer(t: Timer) -> bool
-    ensures { λ r. ⌜ r ≡ takes.clears (t .«reset_type») ⌝ }
-{
-    let kind = t.reset_type;
-    clears(kind)
-}
-
-// Whether an acquire changes the object.
-pub fn acquire_changes(x: KObject) -> bool
-    ensures { λ r. ⌜ r ≡ takes.changes x ⌝ }
-{
-    match x {
-        KObject::Free(_n) => false,
-        KObject::Thread(_u) => false,
-        KObject::Event(e) => clears_event(e),
-        KObject::Mutex(_m) => true,
-        KObject::Semaphore(_s) => true,
-        KObject::Timer(t) => clears_timer(t),
-        KObject::AddressArbiter(_a) => false,
-        KObject::Process => false,
-        KObject::ResourceLimit => false,
-    }
-}
-
 // What becomes of the slot of an object that is acquired.
 pub fn acquired_slot(s: Slot, w: u32) -> Slot
     ensures { λ r. ⌜ r ≡ withObject s (def.acquired (s .object) w) ⌝ }
@@ -248,45 +201,4 @@ pub fn over_after(before: bool, s: Slot) -> bool
     }
     let x = s.object;
     acquire_over(x)
-}
-
-pub fn acquire(s: ObjectStore, o: ObjectId, w: u32) -> ObjectStore
-    ensures { λ r. ⌜ r ≡ def.acquire s (o .0) w ⌝ }
-{
-    let k = o.0;
-    if k == 0 {
-        return s;
-    }
-    if 128 < k {
-        return s;
-    }
-    let j = (k - 1) as usize;
-    let mut q = s;
-    let old = q.slots[j];
-    q.overflow = over_after(q.overflow, old);
-    q.slots[j] = acquired_slot(old, w);
-    q
-}
-
-// The first n of the list, one after the other; in place, since a store handed over would be copied for each.
-pub fn acquire_list(s: ObjectStore, l: [ObjectId; 8], n: u32, w: u32) -> ObjectStore
-    ensures { λ r. ⌜ r ≡ def.acquires s (take n (ids l)) w ⌝ }
-{
-    let mut q = s;
-    let mut i: usize = 0;
-    while i < 8 {
-        if n <= i as u32 {
-            return q;
-        }
-        let o = l[i];
-        let k = o.0;
-        if tally::place::is_slot(k) {
-            let j = (k - 1) as usize;
-            let old = q.slots[j];
-            q.overflow = over_after(q.overflow, old);
-            q.slots[j] = acquired_slot(old, w);
-        }
-        i += 1;
-    }
-    q
 }

@@ -1,8 +1,5 @@
 // The current thread waits or sleeps (`begin_wait`, `sleep_current`).
-use object::store;
-use types::kernel::Kernel;
 use types::thread::Thread;
-use types::thread::ThreadOption;
 use types::thread::ThreadStatus;
 use types::thread::TickOption;
 use types::thread::WaitResult;
@@ -10,8 +7,6 @@ use units::ObjectId;
 use units::Ticks;
 ghost use mathlib.Core.Path.{_≡_};
 ghost use Prim.Native.Nat.{_+_, _-_, _<_};
-ghost use lib.ListN.{set};
-ghost use Rattle.sound.specs.View.{threadAt};
 ghost use Rattle.pass.specs.Timers.{saturatingAdd};
 ghost use Rattle.pass.specs.Waits as def;
 
@@ -57,79 +52,6 @@ pub fn waiting(t: Thread, l: [ObjectId; 8], n: u32, all: bool, wake: TickOption)
         wait_syscall: call,
         guest_id: t.guest_id,
     }
-}
-
-fn put_waiting(
-    ts: [Thread; 32],
-    c: u32,
-    l: [ObjectId; 8],
-    n: u32,
-    all: bool,
-    wake: TickOption,
-) -> [Thread; 32]
-    ensures { λ r. ⌜ r ≡ set ts c (def.waiting (threadAt ts c) l n all wake) ⌝ }
-{
-    if 32 <= c {
-        return ts;
-    }
-    let i = c as usize;
-    let mut q = ts;
-    q[i] = waiting(q[i], l, n, all, wake);
-    q
-}
-
-fn begin_wait_at(
-    c: u32,
-    k: Kernel,
-    l: [ObjectId; 8],
-    n: u32,
-    all: bool,
-    timeout: TickOption,
-    tick: u64,
-) -> Kernel
-    ensures { λ r. ⌜ r ≡ def.beginWaitAs (ThreadOption.SomeThread c) k l n all timeout tick ⌝ }
-{
-    let ts = k.threads;
-    let before = k.objects;
-    let wake = wake_tick(timeout, tick);
-    let threads = put_waiting(ts, c, l, n, all, wake);
-    let objects = store::add_ref_list(before, l, n);
-    let mut q = k;
-    q.objects = objects;
-    q.threads = threads;
-    q
-}
-
-fn begin_wait_as(
-    current: ThreadOption,
-    k: Kernel,
-    l: [ObjectId; 8],
-    n: u32,
-    all: bool,
-    timeout: TickOption,
-    tick: u64,
-) -> Kernel
-    ensures { λ r. ⌜ r ≡ def.beginWaitAs current k l n all timeout tick ⌝ }
-{
-    match current {
-        ThreadOption::NoThread => k,
-        ThreadOption::SomeThread(c) => begin_wait_at(c, k, l, n, all, timeout, tick),
-    }
-}
-
-// On the first n of the list, which the thread holds while it waits.
-pub fn begin_wait(
-    k: Kernel,
-    l: [ObjectId; 8],
-    n: u32,
-    all: bool,
-    timeout: TickOption,
-    tick: u64,
-) -> Kernel
-    ensures { λ r. ⌜ r ≡ def.beginWait k l n all timeout tick ⌝ }
-{
-    let current = k.current_thread;
-    begin_wait_as(current, k, l, n, all, timeout, tick)
 }
 
 pub fn sleeping(t: Thread, wake: u64) -> Thread

@@ -4,4 +4,3 @@ pub mod Sizes
 pub mod Enums
 pub mod Fits
 pub mod Contexts
-pub mod Kept

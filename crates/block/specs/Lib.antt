@@ -5,4 +5,3 @@ pub mod Slot
 pub mod Block
 pub mod Context
 pub mod Tables
-pub mod Parts

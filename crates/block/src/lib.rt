@@ -1,6 +1,5 @@
 // The state in a block of 16,384 bytes, as docs/STATE.md lays it out.
 pub mod context;
-pub mod parts;
 pub mod record;
 pub mod slot;
 pub mod table;
@@ -8,13 +7,9 @@ pub mod thread;
 
 use codec::Four;
 use types::kernel::Kernel;
-use types::object::HandleTable;
-use types::object::ObjectStore;
-use units::Handle;
-use units::ObjectId;
 ghost use mathlib.Core.Path.{_≡_};
 ghost use lib.ListN.{length};
-ghost use Rattle.block.specs.Block.{headWords, headAt, encHead, encBlock, decBlock};
+ghost use Rattle.block.specs.Block.{headWords, headAt, encHead, encBlock};
 
 // The sixteen words of the head.
 pub struct Head {
@@ -97,54 +92,5 @@ pub fn get_head(b: &[u8]) -> Head
         b: codec::get_four(b, 16),
         c: codec::get_four(b, 32),
         d: codec::get_four(b, 48),
-    }
-}
-
-// The state in a block.
-pub fn decode(b: &[u8]) -> Kernel
-    requires { ⌜ length (now b) ≡ 16384 ⌝ }
-    ensures { λ r. ⌜ r ≡ decBlock (now (b .entry)) ⌝ }
-{
-    let threads = thread::get_threads(b, 128);
-    let slots = slot::get_slots(b, 5248);
-    let entries = table::get_entries(b, 10368);
-    let waiters = table::get_waiters(b, 12416);
-    let ids = table::get_ids32(b, 13184);
-    let head = get_head(b);
-    let p = head.a;
-    let q = head.b;
-    let r = head.c;
-    let s = head.d;
-    let current = types::thread::thread_option(p.2, p.3);
-    let objects = ObjectStore {
-        slots: slots,
-        free: r.0,
-        waiters: waiters,
-        free_waiter: r.1,
-        thread_objects: ids,
-        process_object: ObjectId(s.0),
-        full: false,
-        overflow: false,
-    };
-    let handles = HandleTable {
-        entries: entries,
-        count: r.2,
-        next: Handle(r.3),
-        full: false,
-        overflow: false,
-    };
-    Kernel {
-        status_word: p.0,
-        objects: objects,
-        handles: handles,
-        threads: threads,
-        thread_count: p.1,
-        current_thread: current,
-        next_tls_slot: q.0,
-        next_guest_id: q.1,
-        all_blocked: q.2 == 1,
-        relief: q.3 == 1,
-        full: false,
-        overflow: false,
     }
 }

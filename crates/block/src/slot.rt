@@ -13,7 +13,7 @@ ghost use mathlib.Core.Path.{_≡_};
 ghost use Prim.Native.Nat.{_+_, _≤_};
 ghost use lib.ListN.{length};
 ghost use Rattle.codec.specs.Bytes.{over};
-ghost use Rattle.codec.specs.Layout.{decAs, encAll, decAll};
+ghost use Rattle.codec.specs.Layout.{decAs, encAll};
 ghost use Rattle.block.specs.Slot.{eventWords, mutexWords, timerWords, eventOf, mutexOf, timerOf, objectWords, objectOf, slotW, slotWords, encSlot, decSlot};
 
 // An object as numbers, in the order of the block.
@@ -222,28 +222,6 @@ pub fn put_slot(b: &mut [u8], x: Slot)
     codec::put_two(b, 16, Two(w.b, w.c));
     codec::put64(b, 24, w.x);
     codec::put64(b, 32, w.y);
-}
-
-fn no_slot() -> Slot {
-    Slot {
-        object: KObject::Free(0),
-        refcount: 0,
-        pulsed: false,
-    }
-}
-
-pub fn get_slots(s: &[u8], at: usize) -> [Slot; 128]
-    requires { ⌜ at + 5120 ≤ length (now s) ⌝ }
-    ensures { λ r. ⌜ r ≡ decAll decSlot 40 128 (now (s .entry)) at ⌝ }
-{
-    let mut l = [no_slot(); 128];
-    let mut i = 0;
-    while i < 128 {
-        let from = at + i * 40;
-        l[i] = get_slot(&s[from..from + 40]);
-        i += 1;
-    }
-    l
 }
 
 pub fn put_slots(b: &mut [u8], at: usize, l: [Slot; 128])

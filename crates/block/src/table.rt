@@ -65,13 +65,6 @@ pub fn put_id(b: &mut [u8], x: ObjectId)
     codec::put32(b, 0, x.0);
 }
 
-fn no_entry() -> HandleEntry {
-    HandleEntry {
-        handle: Handle(0),
-        object: ObjectId(0),
-    }
-}
-
 fn no_waiter() -> Waiter {
     Waiter {
         thread: 0,
@@ -82,20 +75,6 @@ fn no_waiter() -> Waiter {
 
 fn no_id() -> ObjectId {
     ObjectId(0)
-}
-
-pub fn get_entries(s: &[u8], at: usize) -> [HandleEntry; 256]
-    requires { ⌜ at + 2048 ≤ length (now s) ⌝ }
-    ensures { λ r. ⌜ r ≡ decAll decEntry 8 256 (now (s .entry)) at ⌝ }
-{
-    let mut l = [no_entry(); 256];
-    let mut i = 0;
-    while i < 256 {
-        let from = at + i * 8;
-        l[i] = get_entry(&s[from..from + 8]);
-        i += 1;
-    }
-    l
 }
 
 pub fn put_entries(b: &mut [u8], at: usize, l: [HandleEntry; 256])
@@ -163,20 +142,6 @@ pub fn put_ids8(b: &mut [u8], at: usize, l: [ObjectId; 8])
         put_id(&mut b[from..from + 4], l[i]);
         i += 1;
     }
-}
-
-pub fn get_ids32(s: &[u8], at: usize) -> [ObjectId; 32]
-    requires { ⌜ at + 128 ≤ length (now s) ⌝ }
-    ensures { λ r. ⌜ r ≡ decAll decId 4 32 (now (s .entry)) at ⌝ }
-{
-    let mut l = [no_id(); 32];
-    let mut i = 0;
-    while i < 32 {
-        let from = at + i * 4;
-        l[i] = get_id(&s[from..from + 4]);
-        i += 1;
-    }
-    l
 }
 
 pub fn put_ids32(b: &mut [u8], at: usize, l: [ObjectId; 32])

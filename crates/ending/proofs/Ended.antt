@@ -11,7 +11,6 @@ use Rattle.types.specs.declared.thread.ThreadOption.{ThreadOption}
 use Rattle.types.specs.declared.object.KObject.{KObject}
 use Rattle.types.specs.declared.object.KObject.the-variants as kind
 use Rattle.types.specs.declared.object.Slot.{Slot}
-use Rattle.types.specs.declared.object.ObjectStore.{ObjectStore}
 use Rattle.types.specs.declared.kernel.Kernel.{Kernel}
 use Rattle.types.specs.Object.{kindNumber}
 use Rattle.types.specs.Thread.{threadFlag, threadValue}

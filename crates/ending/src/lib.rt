@@ -17,10 +17,9 @@ ghost use Rattle.block.specs.Thread.{four};
 ghost use Rattle.block.specs.Block.{encBlock, decBlock};
 ghost use Rattle.sound.specs.Question.{sound?};
 ghost use Rattle.thread.specs.Threads as def;
-ghost use Rattle.lent.specs.Operations.{finding, outOfHandles?};
+ghost use Rattle.lent.specs.Operations.{finding};
 ghost use Rattle.rows.specs.Holds.{Holds};
 ghost use Rattle.release.specs.Encoded.{Encoded};
-ghost use Rattle.outcome.specs.Findings.{foundOf};
 
 // Every mutex that the thread owns is given back, all the way down. A slot is read before it is written, and a write leaves
 // the slots after it alone.

@@ -6,7 +6,6 @@ use lent::questions;
 ghost use mathlib.Core.Path.{_≡_};
 ghost use mathlib.Core.List.{[]};
 ghost use Prim.Native.Nat.{_-_};
-ghost use Rattle.svc.specs.Dispatch.{call};
 ghost use Rattle.lent.specs.Lent.{lent, back};
 ghost use Rattle.lent.specs.Guest as def;
 

@@ -12,7 +12,7 @@ use Rattle.block.specs.declared.Head.{Head}
 use Rattle.block.specs.Table.{decEntry}
 use Rattle.block.specs.Tables.{row-at}
 use Rattle.block.specs.Thread.{four}
-use Rattle.block.specs.Block.{headWords, encBlock, decBlock}
+use Rattle.block.specs.Block.{headWords, decBlock}
 use Rattle.block.proofs.Fits.{EntryFits, StateFits}
 use Rattle.object.specs.Handles.{noEntry, without, takenOut}
 use Rattle.object.proofs.Laws.{without-split, without-move, without-last}

@@ -19,7 +19,6 @@ use Rattle.types.specs.declared.object.KObject.{KObject}
 use Rattle.types.specs.declared.object.KObject.the-variants.{Free, Thread, Event, Mutex, Semaphore, Timer, AddressArbiter, Process, ResourceLimit}
 use Rattle.types.specs.declared.object.Waiter.{Waiter}
 use Rattle.types.specs.declared.object.HandleEntry.{HandleEntry}
-use Rattle.types.specs.declared.object.HandleTable.{HandleTable}
 use Rattle.types.specs.declared.object.ObjectStore.{ObjectStore}
 use Rattle.types.specs.Object.{headOf}
 use Rattle.sound.specs.View.{ids, noSlot, slotAt, slotAt-pos, slotAt-out, objectAt, waiterNexts, waiterThreads}
@@ -28,29 +27,11 @@ use Rattle.tally.specs.Place.{isSlot, slot-some, slot-past, slotIndex, index-sl
 use Rattle.object.specs.declared.waiters.Links.{Links}
 use Rattle.object.specs.Slots.{slotPut, withSlots, withObject}
 use Rattle.object.specs.Waiters.{noWaiter, waiterAt, waiterPut, link, unlink, withHead, retain, ofOthers, dropThread, lastOf, firstOf}
-use Rattle.object.specs.declared.handles.Both.{Both}
-use Rattle.object.specs.Store.{isFree, addRef, release}
+use Rattle.object.specs.Store.{isFree, addRef}
 use Rattle.object.specs.Held.{held}
-use Rattle.object.specs.Handles.{noEntry, placeOf, objectOf, without, takenOut, close}
+use Rattle.object.specs.Handles.{noEntry, placeOf, without}
 
 -- ---- slots
-pub slotAt-none : (l : List Slot) (n : ℕ) → n ≡ 0 → slotAt l n ≡ noSlot
-unfolding slotAt
-slotAt-none l n e = rw e
-
-pub slotPut-none : (l : List Slot) (n : ℕ) (v : Slot) → n ≡ 0 → slotPut l n v ≡ l
-unfolding slotPut
-slotPut-none l n v e = rw e
-
-pub slotPut-pos : (l : List Slot) (n : ℕ) (v : Slot) → n ≢ 0 → slotPut l n v ≡ set l (n - 1) v
-unfolding slotPut
-slotPut-pos l zero v p = absurd (p refl)
-slotPut-pos l (suc n) v p = let e : suc n - 1 ≡ n = omega arith in rw e
-
-pub slotPut-far : (l : List Slot) (n : ℕ) (v : Slot) → length l < n → slotPut l n v ≡ l
-unfolding slotPut
-slotPut-far l zero v h = refl
-slotPut-far l (suc n) v h = set-out l n v (omega arith)
 
 pub length-slotPut : (l : List Slot) (r : ℕ) (v : Slot) → length (slotPut l r v) ≡ length l
 unfolding slotPut
@@ -78,19 +59,6 @@ slot-in l o n = go (isSlot o) refl
     go : (b : Bool) → isSlot o ≡ b → pick b (getD l (slotIndex o) noSlot) noSlot ≡ slotAt l o
     go true e = rw (index-slot o e) (sym (slotAt-pos l o (λ z. omega (arith, slot-some o e))))
     go false e = sym (slotAt-out l o (λ h. omega (arith, n, slot-past o e h)))
-
-pub put-in : (f : Slot → Slot) (l : List Slot) (o : ℕ) → length l ≡ 128 → set l (slotIndex o) (pick (isSlot o) (f (getD l (slotIndex o) noSlot)) (getD l (slotIndex o) noSlot)) ≡ slotPut l o (f (slotAt l o))
-put-in f l o n = go (isSlot o) refl
-  where
-    go : (b : Bool) → isSlot o ≡ b → set l (slotIndex o) (pick b (f (getD l (slotIndex o) noSlot)) (getD l (slotIndex o) noSlot)) ≡ slotPut l o (f (slotAt l o))
-    go true e =
-        let z : o ≢ 0 = λ w. omega (arith, w, slot-some o e) in
-        rw (index-slot o e) (sym (slotPut-pos l o (f (slotAt l o)) z ∙ ap (λ (x : Slot). set l (o - 1) (f x)) (slotAt-pos l o z)))
-    go false e = set-getD l (slotIndex o) noSlot ∙ sym (none o e)
-      where
-        none : (k : ℕ) → isSlot k ≡ false → slotPut l k (f (slotAt l k)) ≡ l
-        none zero h = slotPut-none l 0 _ refl
-        none (suc i) h = slotPut-far l (suc i) _ (omega (arith, n, slot-past (suc i) h (omega arith)))
 
 -- ---- a list of objects, first to last
 abbrev noId : ObjectId
@@ -143,12 +111,6 @@ without-last [] n h = absurd (omega arith)
 without-last (x ∷ []) zero h = refl
 without-last (x ∷ y ∷ l) zero h = absurd (omega arith)
 without-last (x ∷ l) (suc n) h = ap (λ m. x ∷ m) (without-last l n (omega arith))
-
-pub without-far : (l : List HandleEntry) (k : ℕ) → length l ≤ k → l ≡ without l k
-unfolding without
-without-far [] k h = refl
-without-far (x ∷ l) zero h = absurd (omega arith)
-without-far (x ∷ l) (suc k) h = ap (λ m. x ∷ m) (without-far l k (omega arith))
 
 -- ---- kept objects
 pub kept-far : (l : List ObjectId) (t : ℕ) → length l ≤ t → 0 ≡ getD (ids l) t 0
@@ -283,16 +245,3 @@ module _ (s : ObjectStore) (l : List Slot) (ws : List Waiter) (free t i : ℕ) (
   drop-none e =
       sym (drop-turn (withRecords s l ws free) t i h
       ∙ rw (walk-nil (waiterNexts ws) 64 (headOf (getD l i noSlot .object)) e, head-same (getD l i noSlot .object) e, set-getD l i noSlot))
-
--- ---- a handle goes
-module _ (t : HandleTable) (s : ObjectStore) (h : ℕ) where
-  abbrev pub closed : Both
-  closed = record { table = takenOut t (placeOf (t .entries) h); store = release s (objectOf t h) }
-
-  pub close-none : objectOf t h ≡ 0 → _≡_ {A = Both} (record { table = t; store = s }) (close t s h)
-  unfolding close
-  close-none e = rw (eq-eqb _ _ e)
-
-  pub close-some : objectOf t h ≢ 0 → closed ≡ close t s h
-  unfolding close
-  close-some e = rw (ne-eqb _ _ e)

@@ -1,7 +1,6 @@
 // The records of address arbiters, numbered from 1: a chain each, and the free one.
 // Chains are walked by recursion with a falling allowance, so that a damaged chain ends too.
 use types::object::KObject;
-use types::object::ObjectStore;
 use types::object::Slot;
 use types::object::Waiter;
 use types::sync::AddressArbiter;
@@ -269,43 +268,6 @@ pub fn free_chain(ws: [Waiter; 64], head: u32, free: u32) -> Links
         free: u.free,
         head: u.head,
     }
-}
-
-// All records of a thread, in every arbiter.
-pub fn drop_thread(s: ObjectStore, t: u32) -> ObjectStore
-    ensures { λ r. ⌜ r ≡ def.dropThread 128 1 t s ⌝ }
-{
-    let ws = s.waiters;
-    let mut threads = tally::columns::threads_of(ws);
-    let mut addresses = tally::columns::addresses_of(ws);
-    let mut nexts = tally::columns::nexts_of(ws);
-    let mut q = s;
-    let mut free = s.free_waiter;
-    let mut i: usize = 0;
-    while i < 128 {
-        let old = q.slots[i];
-        let object = old.object;
-        let head = types::object::head_of(object);
-        if head != 0 {
-            let u = unlink(
-                &mut threads,
-                &mut addresses,
-                &mut nexts,
-                false,
-                t,
-                head,
-                64,
-                free,
-            );
-            q.slots[i] = headed(old, u.head);
-            free = u.free;
-        }
-        i += 1;
-    }
-    let l = join(threads, addresses, nexts);
-    q.waiters = l;
-    q.free_waiter = free;
-    q
 }
 
 // Whether a record of the chain from at is that of thread t and address a.

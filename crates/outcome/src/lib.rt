@@ -1,11 +1,9 @@
 // What a call leaves. Its state goes into the block where the call ends: by value it would be copied on each way up.
 use lent::questions;
-use svc::Served;
 use svc::WordOption;
 use units::Handle;
 ghost use mathlib.Core.Path.{_≡_};
 ghost use lib.ListN.{length};
-ghost use Rattle.outcome.specs.Outcome.{outcome, left};
 ghost use Rattle.outcome.specs.Outcome as def;
 ghost use Rattle.outcome.specs.Findings.{foundOf};
 ghost use Rattle.block.specs.Block.{decBlock};
@@ -92,28 +90,4 @@ pub fn silent() -> Outcome
     ensures { λ o. ⌜ o ≡ def.refused 0 ⌝ }
 {
     refused(0)
-}
-
-// With a finding the block stays as it is.
-pub fn finish(block: &mut [u8], s: Served) -> Outcome
-    requires { ⌜ length (now block) ≡ 16384 ⌝ }
-    ensures { λ o. ⌜ o ≡ outcome s ⌝ }
-    ensures { λ _. ⌜ now (block .exit) ≡ left s (now (block .entry)) ⌝ }
-{
-    let after = s.kernel;
-    let r0 = s.r0;
-    let r1 = s.r1;
-    let word = s.word;
-    let found = questions::first_finding(after);
-    if found != 0 {
-        return refused(found);
-    }
-    block::encode(block, after);
-    Outcome {
-        found: 0,
-        answer: s.answer,
-        r0: r0,
-        r1: r1,
-        word: word,
-    }
 }

@@ -12,9 +12,6 @@ use Rattle.types.specs.declared.thread.Thread as th
 use Rattle.types.specs.declared.sync.ResetType.{ResetType}
 use Rattle.types.specs.declared.sync.ResetType.the-variants.{OneShot, Sticky, Pulse}
 use Rattle.types.specs.declared.sync.Event as ev
-use Rattle.types.specs.declared.sync.Mutex as mu
-use Rattle.types.specs.declared.sync.Semaphore as se
-use Rattle.types.specs.declared.sync.Timer as ti
 use Rattle.types.specs.declared.object.KObject.{KObject}
 use Rattle.types.specs.declared.object.KObject.the-variants.{Free, Thread, Event, Mutex, Semaphore, Timer, AddressArbiter, Process, ResourceLimit}
 use Rattle.types.specs.declared.object.Slot.{Slot}

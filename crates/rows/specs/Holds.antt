@@ -210,33 +210,6 @@ module _ {b : List ℕ} {k : Kernel} (g : Holds b k) where
         sizes = record { nt = n; ns = g .sizes .ns; ne = g .sizes .ne; nw = g .sizes .nw; ni = g .sizes .ni };
       }
 
-  pub put-slots : (ss : List Slot) → length ss ≡ 128 → Holds (over b 5248 (encAll encSlot ss)) (withThreads k (k .threads) (withSlots (k .objects) ss))
-  unfolding encBlock
-  put-slots ss n =
-      let P = H k ++ X1 k in
-      let Q = X3 k ++ (X4 k ++ (X5 k ++ Z)) in
-      record {
-        same =
-            rw (g .same, ← append-assoc (H k) (X1 k) (X2 k ++ Q))
-            (over-at P (X2 k) (encAll encSlot ss) Q 5248 5120 (len-1 k (g .sizes)) (length-all encSlot 40 length-encSlot 128 (k .objects .slots) (g .sizes .ns)) (length-all encSlot 40 length-encSlot 128 ss n)
-            ∙ append-assoc (H k) (X1 k) (encAll encSlot ss ++ Q));
-        sizes = record { nt = g .sizes .nt; ns = n; ne = g .sizes .ne; nw = g .sizes .nw; ni = g .sizes .ni };
-      }
-
-  pub put-entries : (es : List HandleEntry) → length es ≡ 256 → Holds (over b 10368 (encAll encEntry es)) (withTable k (withEntries (k .handles) es))
-  unfolding encBlock
-  put-entries es n =
-      let P = (H k ++ X1 k) ++ X2 k in
-      let Q = X4 k ++ (X5 k ++ Z) in
-      record {
-        same =
-            rw (g .same, ← append-assoc (H k) (X1 k) (X2 k ++ (X3 k ++ Q)), ← append-assoc (H k ++ X1 k) (X2 k) (X3 k ++ Q))
-            (over-at P (X3 k) (encAll encEntry es) Q 10368 2048 (len-2 k (g .sizes)) (length-all encEntry 8 length-encEntry 256 (k .handles .entries) (g .sizes .ne)) (length-all encEntry 8 length-encEntry 256 es n)
-            ∙ append-assoc (H k ++ X1 k) (X2 k) (encAll encEntry es ++ Q)
-            ∙ append-assoc (H k) (X1 k) (X2 k ++ (encAll encEntry es ++ Q)));
-        sizes = record { nt = g .sizes .nt; ns = g .sizes .ns; ne = n; nw = g .sizes .nw; ni = g .sizes .ni };
-      }
-
   pub put-waiters : (ws : List Waiter) → length ws ≡ 64 → Holds (over b 12416 (encAll encWaiter ws)) (withThreads k (k .threads) (withWaiters (k .objects) ws))
   unfolding encBlock
   put-waiters ws n =
@@ -249,19 +222,6 @@ module _ {b : List ℕ} {k : Kernel} (g : Holds b k) where
             ∙ over-at P (X4 k) (encAll encWaiter ws) Q 12416 768 (len-3 k (g .sizes)) (length-all encWaiter 12 length-encWaiter 64 (k .objects .waiters) (g .sizes .nw)) (length-all encWaiter 12 length-encWaiter 64 ws n)
             ∙ sym (apart-3 k (encAll encWaiter ws ++ Q)));
         sizes = record { nt = g .sizes .nt; ns = g .sizes .ns; ne = g .sizes .ne; nw = n; ni = g .sizes .ni };
-      }
-
-  pub put-ids : (is : List ObjectId) → length is ≡ 32 → Holds (over b 13184 (encAll encId is)) (withThreads k (k .threads) (withKept (k .objects) is))
-  unfolding encBlock
-  put-ids is n =
-      let P = (((H k ++ X1 k) ++ X2 k) ++ X3 k) ++ X4 k in
-      record {
-        same =
-            rw (g .same)
-            (ap (λ (t : List ℕ). over t 13184 (encAll encId is)) (apart-4 k (X5 k ++ Z))
-            ∙ over-at P (X5 k) (encAll encId is) Z 13184 128 (len-4 k (g .sizes)) (length-all encId 4 length-encId 32 (k .objects .«thread_objects») (g .sizes .ni)) (length-all encId 4 length-encId 32 is n)
-            ∙ sym (apart-4 k (encAll encId is ++ Z)));
-        sizes = record { nt = g .sizes .nt; ns = g .sizes .ns; ne = g .sizes .ne; nw = g .sizes .nw; ni = n };
       }
 
   -- ---- the head, where the tables are as they were

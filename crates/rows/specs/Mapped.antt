@@ -5,7 +5,7 @@ use Prim.Native.Nat.{ℕ, zero, suc, _+_, _*_, _≤_, _<_}
 use native.Mathlib.Nat.{suc-mul}
 use native.Mathlib.Numerals.{add-one}
 use native.Mathlib.Omega.{arith}
-use lib.ListN.{length, getD, set, take, drop}
+use lib.ListN.{length, getD, set, drop}
 use lib.Seq.{drop-drop}
 use Rattle.codec.specs.Bytes.{over}
 use Rattle.codec.proofs.Laws.{length-over, drop-over}
@@ -52,7 +52,6 @@ map-each none g n (x ∷ xs) = ap (λ y. g x ∷ y) (map-each none g (suc n) xs)
 -- ---- a table of `count` records of `size` bytes from `start` on; s is the block before the first is written
 module _ {A : Type 0} (enc : A → List ℕ) (start size count : ℕ) (sized : (x : A) → length (enc x) ≡ size) (room : (i : ℕ) → i < count → start + i * size + size ≤ 16384)
     (put : List ℕ → ℕ → A → List ℕ) (put-is : (b : List ℕ) (i : ℕ) (x : A) → i < count → put b i x ≡ over b (start + i * size) (enc x)) (s : List ℕ) where
-
   -- the records from i on are as they were
   pub record Untouched (i : ℕ) (b : List ℕ) : Type 0 where
     pub long : length b ≡ 16384
@@ -82,7 +81,6 @@ module _ {A : Type 0} (enc : A → List ℕ) (start size count : ℕ) (sized : (
   -- each record changed by f
   module _ (none : A) (f : ℕ → A → A) (state : List A → Kernel) (put-holds : (b : List ℕ) (l : List A) (i : ℕ) (x : A) → Holds b (state l) → Holds (put b i x) (state (set l i x)))
       (before : List A) (many : length before ≡ count) where
-
     -- the first i records are done, the others as they were
     pub record MappedTo (i : ℕ) (b : List ℕ) : Type 0 where
       pub rows : Untouched i b

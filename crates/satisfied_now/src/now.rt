@@ -5,7 +5,6 @@ use pass::Satisfied;
 use rows::read;
 use types::thread::ThreadOption;
 use units::ObjectId;
-use wait::look;
 ghost use mathlib.Core.Path.{_≡_};
 ghost use mathlib.Core.List.{map};
 ghost use Prim.Native.Nat.{_*_, _≤_};
@@ -79,7 +78,7 @@ fn satisfied_for(b: &[u8], c: u32, l: [ObjectId; 8], n: usize, all: bool) -> Sat
     if any_none(l, n) {
         return unsatisfied();
     }
-    let found = look::satisfied_at(b, c, all, l, n as u32);
+    let found = wait::satisfied_at(b, c, all, l, n as u32);
     found_as(found, l)
 }
 

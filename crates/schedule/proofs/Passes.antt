@@ -33,7 +33,7 @@ use Rattle.pass.specs.Timers.{fireTimers}
 use Rattle.pass.specs.Waits.{fate, taken, waitedObjects, tryAs, tryWait, tryWaits}
 use Rattle.object.specs.Slots.{content}
 use Rattle.sound.specs.View.{threadAt}
-use Rattle.pass.specs.Schedule.{scheduled, switchAs, choose, tried, schedule}
+use Rattle.pass.specs.Schedule.{switchAs, choose, tried, schedule}
 use Rattle.passing.specs.Awake.{during}
 use Rattle.scheduler.specs.declared.choose.Turned.{Turned}
 use Rattle.scheduler.specs.Turn.{turning, passed, Chooses}

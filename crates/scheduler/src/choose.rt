@@ -4,7 +4,7 @@ use types::thread::Thread;
 use types::thread::ThreadOption;
 ghost use mathlib.Core.Path.{_≡_};
 ghost use mathlib.Core.Bool.{not};
-ghost use Rattle.laws.specs.Logic.{pick, _and_};
+ghost use Rattle.laws.specs.Logic.{_and_};
 ghost use Rattle.sound.specs.View.{threadAt};
 ghost use Rattle.pass.specs.Pick.{orElse};
 ghost use Rattle.pass.specs.Schedule as def;

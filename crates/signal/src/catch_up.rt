@@ -1,19 +1,15 @@
 // Timers caught up with before a guest touches one: a pulse that no thread waits on is lost (`catch_up_timers`).
 use crate::event;
 use crate::pulse;
-use crate::timer;
 use types::object::KObject;
-use types::object::ObjectStore;
 use types::object::Slot;
 use types::thread::Thread;
 ghost use mathlib.Core.Path.{_≡_};
 ghost use Prim.Native.Nat.{_≤_};
 ghost use lib.ListN.{length};
-ghost use Rattle.laws.specs.All.{All};
-ghost use Rattle.laws.specs.Tally.{tally, tallyAll};
-ghost use Rattle.object.specs.Slots.{withSlots};
+ghost use Rattle.laws.specs.Tally.{tally};
 ghost use Rattle.pass.specs.Timers as def;
-ghost use Rattle.signal.specs.Marks.{syncList, syncLists, lostMarked};
+ghost use Rattle.signal.specs.Marks.{syncList};
 
 pub fn lost_object(x: KObject) -> KObject
     ensures { λ r. ⌜ r ≡ def.lostObject x ⌝ }
@@ -60,46 +56,4 @@ pub fn mark_list(m: &mut [u32; 129], t: Thread)
     }
     let l = t.wait_objects;
     tally::tally_list(m, l);
-}
-
-fn mark_lists(m: &mut [u32; 129], ts: [Thread; 32])
-    ensures { λ _. ⌜ now (m .exit) ≡ tallyAll 129 (now (m .entry)) (syncLists ts) ⌝ }
-    ensures { λ _. ⌜ length ts ≡ 32 ⌝ }
-    ensures { λ _. ⌜ All (λ t. length (syncList t) ≤ 8) ts ⌝ }
-{
-    let mut i: usize = 0;
-    while i < 32 {
-        mark_list(m, ts[i]);
-        i += 1;
-    }
-}
-
-// The pulses of objects that m does not mark are lost.
-fn lose_pulses(s: ObjectStore, m: [u32; 129]) -> ObjectStore
-    ensures { λ r. ⌜ r ≡ withSlots s (lostMarked m 1 (s .slots)) ⌝ }
-    ensures { λ _. ⌜ length (s .slots) ≡ 128 ⌝ }
-{
-    let mut q = s;
-    let mut i: usize = 0;
-    while i < 128 {
-        let old = q.slots[i];
-        if old.pulsed {
-            q.slots[i] = lost_slot(0 < m[i + 1], old);
-        }
-        i += 1;
-    }
-    q
-}
-
-// The marks make it linear: who waits is not looked up for each slot.
-pub fn catch_up_timers(s: ObjectStore, ts: [Thread; 32], tick: u64) -> ObjectStore
-    ensures { λ r. ⌜ r ≡ def.catchUpTimers s ts tick ⌝ }
-{
-    let slots = s.slots;
-    if !timer::timer_due(tick, slots) {
-        return s;
-    }
-    let mut m = [0u32; 129];
-    mark_lists(&mut m, ts);
-    lose_pulses(timer::fire_timers(s, tick), m)
 }

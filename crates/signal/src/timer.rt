@@ -2,7 +2,6 @@
 use crate::event;
 use kernel::next_event;
 use types::object::KObject;
-use types::object::ObjectStore;
 use types::object::Slot;
 use types::sync::Timer;
 use types::thread::TickOption;
@@ -174,49 +173,10 @@ pub fn slot_over(s: Slot, tick: u64) -> bool
     over_of(x, tick)
 }
 
-pub fn over_after(before: bool, s: Slot, tick: u64) -> bool
-    ensures { λ r. ⌜ r ≡ (before or def.overOf (s .object) tick) ⌝ }
-{
-    if before {
-        return true;
-    }
-    slot_over(s, tick)
-}
-
 pub fn slot_due(s: Slot, tick: u64) -> bool
     ensures { λ r. ⌜ r ≡ def.dueBy (dueOf (s .object)) tick ⌝ }
 {
     let x = s.object;
     let at = next_event::due_of(x);
     due_by(at, tick)
-}
-
-// In place: few slots change.
-pub fn fire_timers(s: ObjectStore, tick: u64) -> ObjectStore
-    ensures { λ r. ⌜ r ≡ def.fireTimers s tick ⌝ }
-{
-    let mut q = s;
-    let mut i: usize = 0;
-    while i < 128 {
-        let old = q.slots[i];
-        if slot_due(old, tick) {
-            q.overflow = over_after(q.overflow, old, tick);
-            q.slots[i] = fired_slot(tick, old);
-        }
-        i += 1;
-    }
-    q
-}
-
-pub fn timer_due(tick: u64, l: [Slot; 128]) -> bool
-    ensures { λ r. ⌜ r ≡ def.timerDue tick l ⌝ }
-{
-    let mut i: usize = 0;
-    while i < 128 {
-        if slot_due(l[i], tick) {
-            return true;
-        }
-        i += 1;
-    }
-    false
 }

@@ -20,7 +20,7 @@ use Rattle.types.specs.Object.{kindNumber, nextOf, headOf}
 use Rattle.sound.specs.View.{kinds, refs, nexts, heads, ids, waiterThreads, waiterAddresses, slotAt, objectAt, at-slots}
 use Rattle.sound.specs.Objects.{keptNames, Held, Ref, refOf, keptAt, KeptOk}
 use Rattle.sound.specs.Records.{Chained, freeChain, Blanks}
-use Rattle.object.specs.Slots.{slotPut, withSlots, withObject, withRefcount, content}
+use Rattle.object.specs.Slots.{withSlots, withRefcount}
 use Rattle.object.specs.Store.{isFree, insert, addRef, addRefs, release-if, release, releases}
 use Rattle.soundness.specs.Slots.{pick-both, kindAt, headAt, nextAt, refAt, map-slotPut, map-slotPut-same, slot-f, slot-other, slot-same}
 use Rattle.soundness.specs.Chains.{Dropped, dropped, none-left, dropped-blanks}
@@ -104,19 +104,6 @@ slots-ok s l f ek er en eh el eo h = record {
   nw = h .nw;
   ni = h .ni;
 }
-
--- one slot anew, with the object's shape and the count that it had; its mark is free
-pub slotPut-ok : (s : ObjectStore) (o : ℕ) (v : Slot) (f : ℕ → ℕ) → shapeOf (v .object) ≡ shapeOf (objectAt s o) → v .refcount ≡ slotAt (s .slots) o .refcount → ObOk s f
-    → ObOk (withSlots s (slotPut (s .slots) o v)) f
-slotPut-ok s o v f e r h =
-    slots-ok s (slotPut (s .slots) o v) f (map-slotPut-same kindAt (s .slots) o v (ap (λ (q : Shape). q .kind) e)) (map-slotPut-same (λ y. y .refcount) (s .slots) o v r)
-    (map-slotPut-same nextAt (s .slots) o v (ap (λ (q : Shape). q .next) e)) (map-slotPut-same headAt (s .slots) o v (ap (λ (q : Shape). q .head) e)) (length-slotPut (s .slots) o v)
-    (λ i. slot-f refAt (s .slots) o v i (ap (λ (q : Shape). q .ref) e)) h
-
--- an object changes what it holds, not its shape
-pub content-ok : (s : ObjectStore) (o : ℕ) (x : KObject) (f : ℕ → ℕ) → shapeOf x ≡ shapeOf (objectAt s o) → ObOk s f → ObOk (content s o x) f
-unfolding content
-content-ok s o x f e h = slotPut-ok s o (withObject (slotAt (s .slots) o) x) f e refl h
 
 -- every slot at once: object shapes and counts kept, marks free
 pub map-slots : {A : Type 0} (f : Slot → A) (g : Slot → Slot) → ((x : Slot) → f (g x) ≡ f x) → (l : List Slot) → map f (map g l) ≡ map f l
@@ -294,12 +281,6 @@ pub release-overflow : (s : ObjectStore) (o : ℕ) → release s o .overflow ≡
 unfolding release
 release-overflow s o =
     pick-both (λ (y : ObjectStore). y .overflow ≡ s .overflow) (isFree (objectAt s o)) s _ refl (release-rest (leb 2 (slotAt (s .slots) o .refcount)) s o .3)
-
-pub release-kept : (s : ObjectStore) (o i : ℕ) → keptNames (release s o) i ≡ keptNames s i
-unfolding release keptNames
-release-kept s o i =
-    pick-both (λ (y : ObjectStore). keptNames y i ≡ keptNames s i) (isFree (objectAt s o)) s _ refl
-    (let q = release-rest (leb 2 (slotAt (s .slots) o .refcount)) s o in rw (q .0, q .1))
 
 -- all the numbers of a list are of objects: none is 0
 abbrev pub Pos : List ℕ → Type 0

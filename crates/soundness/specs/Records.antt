@@ -1,6 +1,6 @@
 -- Records of arbiters: `retain`, `dropThread` and `push` keep the component and the records sound; every other primitive leaves or drops records.
 use mathlib.Core.Path.{_≡_, refl, ap, sym, subst, _∙_}
-use mathlib.Core.Bool.{Bool, true, false, not}
+use mathlib.Core.Bool.{Bool, true, false}
 use mathlib.Core.Logic.{_≢_, _⊎_, inl, inr}
 use mathlib.Core.List.{List, [], _∷_, _++_}
 use Prim.Native.Nat.{ℕ, zero, suc, _+_, _≤_, _<_}
@@ -21,9 +21,9 @@ use Rattle.sound.specs.View.{heads, waiterNexts, waiterThreads, waiterAddresses
 use Rattle.sound.specs.Objects.{keptNames, refOf}
 use Rattle.sound.specs.Records.{chainOf, has?, ChainOk, RecordsOk}
 use Rattle.object.specs.Slots.{withObject}
-use Rattle.object.specs.Waiters.{waiterAt, unlink, withHead, unlinked, retain, ofOthers, dropThread, firstOf, isArbiter, pushed, push}
+use Rattle.object.specs.Waiters.{unlink, withHead, unlinked, retain, ofOthers, dropThread, firstOf, isArbiter, pushed, push}
 use Rattle.object.specs.Store.{release-if, release, releases}
-use Rattle.object.proofs.Laws.{at-waiters, length-slotPut}
+use Rattle.object.proofs.Laws.{length-slotPut}
 use Rattle.soundness.specs.Slots.{kindAt, headAt, nextAt, refAt, map-slotPut-same, slot-f}
 use Rattle.soundness.specs.Unlink.{keepIf, kept}
 use Rattle.soundness.specs.Chains.{Dropped, dropped, dropped-blanks}
@@ -212,48 +212,6 @@ unfolding dropThread
 dropThread-full zero o t s = refl
 dropThread-full (suc n) o t s = dropThread-full n (suc o) t (retain (ofOthers s t) s o) ∙ retain-full (ofOthers s t) s o
 
--- no record of the thread t in the chain of the object i
-abbrev pub NoneOf : ℕ → ObjectStore → ℕ → Type 0
-NoneOf t s i = (x : ℕ) → 0 < count x (chainOf s i) → at (waiterThreads (s .waiters)) x ≢ t
-
-kept-keep : (keep : ℕ → Bool) (x : ℕ) (xs : List ℕ) → 0 < count x (kept keep xs) → keep x ≡ true
-unfolding kept count
-kept-keep keep x [] z = absurd (omega arith)
-kept-keep keep x (y ∷ ys) z = go (keep y) refl z (λ w. kept-keep keep x ys w)
-  where
-    go : (q : Bool) → keep y ≡ q → 0 < count x (keepIf q y (kept keep ys)) → (0 < count x (kept keep ys) → keep x ≡ true) → keep x ≡ true
-    go true e w ih = elim (ind-cases y x) [ inl h ↦ ap keep (sym (h .0)) ∙ e | inr h ↦ ih (omega (arith, h .1)) ]
-    go false e w ih = ih w
-
-not-true : (b : Bool) → not b ≡ true → b ≡ false
-not-true true e = sym e
-not-true false e = refl
-
-module _ (s : ObjectStore) (o t : ℕ) (f : ℕ → ℕ) (z : 0 < o) (l : o ≤ 128) (h : ObOk s f) where
-  retain-at : (i x : ℕ) → 0 < count x (chainOf (retain (ofOthers s t) s o) i) → at (waiterThreads (retain (ofOthers s t) s o .waiters)) x ≡ at (waiterThreads (s .waiters)) x
-  retain-at i x w = let d = retain-dropped (ofOthers s t) s o f z l h in d .stay x (d .apart x i w) .0
-
-  retain-none : NoneOf t (retain (ofOthers s t) s o) o
-  retain-none x w e =
-      let d = retain-dropped (ofOthers s t) s o f z l h in
-      let k = kept-keep (ofOthers s t) x (chainOf s o) (subst (λ (c : List ℕ). 0 < count x c) (d .self) w) in
-      eqb-false (waiterAt (s .waiters) x .thread) t (not-true _ k) (sym (at-waiters (λ (y : Waiter). y .thread) (s .waiters) x refl) ∙ sym (retain-at o x w) ∙ e)
-
-  retain-none-other : (i : ℕ) → i ≢ o → NoneOf t s i → NoneOf t (retain (ofOthers s t) s o) i
-  retain-none-other i n q x w e =
-      let d = retain-dropped (ofOthers s t) s o f z l h in
-      q x (subst (λ (c : List ℕ). 0 < count x c) (d .other i n) w) (sym (retain-at i x w) ∙ e)
-
-drop-none : (n o t : ℕ) (s : ObjectStore) (f : ℕ → ℕ) → 0 < o → o + n ≤ 129 → ObOk s f → ((i : ℕ) → i < o → NoneOf t s i) → (i : ℕ) → i < o + n → NoneOf t (dropThread n o t s) i
-unfolding dropThread
-drop-none zero o t s f z l h q i w = q i (omega arith)
-drop-none (suc n) o t s f z l h q i w =
-    drop-none n (suc o) t (retain (ofOthers s t) s o) f (omega arith) (omega arith) (retain-ok (ofOthers s t) s o f z (omega arith) h)
-    (λ j b. elim (ind-cases j o) [
-      | inl e ↦ subst (NoneOf t (retain (ofOthers s t) s o)) (sym (e .0)) (retain-none s o t f z (omega arith) h)
-      | inr e ↦ retain-none-other s o t f z (omega arith) h j (e .0) (q j (omega (arith, e .0)))
-    ]) i (omega arith)
-
 -- ---- push
 -- what is no slot is no arbiter
 arbiter-in : (l : List Slot) (o : ℕ) → isArbiter (slotAt l o .object) ≡ true → (0 < o) × (o ≤ length l)
@@ -391,4 +349,3 @@ push-chains-if false q n s o t a f e b l h g c = c
 pub push-chains : (n : ℕ) (s : ObjectStore) (o t a : ℕ) (f : ℕ → ℕ) → t < n → Fine s f → push s o t a .full ≡ false → ChainsOk n s → ChainsOk n (push s o t a)
 unfolding push
 push-chains n s o t a f l h g c = push-chains-if (isArbiter (objectAt s o)) (has? (waiterThreads (s .waiters)) (waiterAddresses (s .waiters)) t a (chainOf s o)) n s o t a f refl refl l h g c
-

@@ -10,7 +10,7 @@ use Rattle.types.specs.declared.object.ObjectStore.{ObjectStore}
 use Rattle.types.specs.Object.{headOf}
 use Rattle.sound.specs.View.{waiterNexts, objectAt}
 use Rattle.sound.specs.Records.{chainOf}
-use Rattle.object.specs.Slots.{withSlots, content}
+use Rattle.object.specs.Slots.{withSlots}
 use Rattle.object.specs.Store.{isFree, insert, addRef, addRefs}
 use Rattle.soundness.specs.Slots.{pick-both, headAt, slot-f}
 use Rattle.soundness.specs.Objects.{Shape, shapeOf, ObOk, slotAt-map, free-head, free-kind}
@@ -29,10 +29,6 @@ same-trans s s′ s″ a b = record { waiters = b .waiters ∙ a .waiters; free 
 pub chain-same : (s s′ : ObjectStore) → SameRecs s s′ → (o : ℕ) → chainOf s′ o ≡ chainOf s o
 chain-same s s′ e o =
     ap (λ (w : List Waiter). walk (waiterNexts w) 64 (headOf (objectAt s′ o))) (e .waiters) ∙ ap (walk (waiterNexts (s .waiters)) 64) (e .heads o)
-
-pub content-same : (s : ObjectStore) (o : ℕ) (x : KObject) → shapeOf x ≡ shapeOf (objectAt s o) → SameRecs s (content s o x)
-unfolding content
-content-same s o x e = record { waiters = refl; free = refl; heads = λ i. slot-f headAt (s .slots) o _ i (ap (λ (q : Shape). q .head) e) }
 
 pub contents-same : (g : Slot → Slot) → ((x : Slot) → shapeOf (g x .object) ≡ shapeOf (x .object)) → (s : ObjectStore) → SameRecs s (withSlots s (map g (s .slots)))
 contents-same g e s = record { waiters = refl; free = refl; heads = λ o. slotAt-map headAt g (λ x. ap (λ (q : Shape). q .head) (e x)) (s .slots) o }

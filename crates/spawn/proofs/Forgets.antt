@@ -1,13 +1,13 @@
 -- A block in which the thread that a place had is forgotten. Assumes nothing.
 use mathlib.Core.Path.{_≡_, refl, sym, ap, subst, _∙_}
 use mathlib.Core.Logic.{_≢_}
-use mathlib.Core.Bool.{Bool, true, false, not}
+use mathlib.Core.Bool.{false, not}
 use mathlib.Core.List.{List, _∷_}
 use Prim.Native.Nat.{ℕ, suc, _+_, _-_, _≤_, _<_}
 use native.Mathlib.Numerals.{add-one}
 use native.Mathlib.Omega.{arith}
 use lib.Dec.{eqb}
-use lib.ListN.{length, getD, set, drop, length-set}
+use lib.ListN.{length, getD, set, drop}
 use lib.Seq.{drop-cons, drop-set-lt}
 use borrow.Author.Tests.{eq-eqb, ne-eqb}
 use Rattle.laws.specs.Walk.{walk}
@@ -24,7 +24,7 @@ use Rattle.block.specs.Thread.{four}
 use Rattle.block.specs.Block.{headAt, headWords, decBlock}
 use Rattle.sound.specs.View.{noSlot, waiterNexts}
 use Rattle.sound.specs.Objects.{keptAt}
-use Rattle.object.specs.Slots.{withObject, withKept}
+use Rattle.object.specs.Slots.{withObject}
 use Rattle.object.specs.Store.{release}
 use Rattle.object.specs.declared.waiters.Links.{Links}
 use Rattle.object.specs.Waiters.{waiterAt, withHead, unlink, dropThread}

@@ -14,7 +14,6 @@ use Rattle.block.specs.Block.{decBlock, encBlock}
 use Rattle.sound.specs.Question.{sound?}
 use Rattle.sound.specs.View.{objectAt}
 use Rattle.object.specs.Slots.{content}
-use Rattle.object.specs.Slots as object
 use Rattle.pass.specs.Signal as pass
 use Rattle.svc.specs.declared.Registers.{Registers}
 use Rattle.svc.specs.Call.{withObjects, withOver, resolved}

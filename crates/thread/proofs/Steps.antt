@@ -1,11 +1,11 @@
 -- One turn of each loop. Assumes nothing.
 use mathlib.Core.Path.{_≡_, refl, ap}
 use mathlib.Core.Bool.{Bool, true, false}
-use mathlib.Core.List.{List, [], _∷_, map}
+use mathlib.Core.List.{List, [], _∷_}
 use Prim.Native.Nat.{ℕ, zero, suc, _+_, _-_, _≤_, _<_}
 use native.Mathlib.Omega.{arith}
 use lib.Dec.{eqb}
-use lib.ListN.{length, getD, set}
+use lib.ListN.{getD, set}
 use Rattle.laws.specs.Logic.{pick}
 use Rattle.laws.specs.Count.{count}
 use Rattle.types.specs.declared.kernel.Kernel.{Kernel}
@@ -20,30 +20,6 @@ free-step m n i h = let e : n - i ≡ suc (n - (i + 1)) = omega arith in rw e
 pub free-end : (m : List ℕ) (n i : ℕ) → n ≤ i → freeMarked m (n - i) i ≡ i
 unfolding freeMarked
 free-end m n i h = let e : n - i ≡ 0 = omega arith in rw e
-
--- the first i cells of a list changed by f
-unfoldable pub mapTo : {A : Type 0} → (A → A) → ℕ → List A → List A
-mapTo f zero l = l
-mapTo f (suc i) [] = []
-mapTo f (suc i) (x ∷ xs) = f x ∷ mapTo f i xs
-
-pub mapTo-step : {A : Type 0} (f : A → A) (d : A) (l : List A) (i : ℕ) → i < length l → set (mapTo f i l) i (f (getD (mapTo f i l) i d)) ≡ mapTo f (suc i) l
-unfolding mapTo
-mapTo-step f d [] i h = absurd (omega arith)
-mapTo-step f d (x ∷ xs) zero h = refl
-mapTo-step f d (x ∷ xs) (suc i) h = ap (λ z. f x ∷ z) (mapTo-step f d xs i (omega arith))
-
-pub mapTo-none : {A : Type 0} (f : A → A) (l : List A) → mapTo f 0 l ≡ l
-unfolding mapTo
-mapTo-none f l = refl
-
-mapTo-all : {A : Type 0} (f : A → A) (l : List A) → mapTo f (length l) l ≡ map f l
-unfolding mapTo
-mapTo-all f [] = refl
-mapTo-all f (x ∷ xs) = ap (λ z. f x ∷ z) (mapTo-all f xs)
-
-pub mapTo-full : {A : Type 0} (f : A → A) (l : List A) (n : ℕ) → length l ≡ n → mapTo f n l ≡ map f l
-mapTo-full f l n e = rw (← e) (mapTo-all f l)
 
 -- a slot that is looked for lies below the bound, or is the bound
 pick-le : (b : Bool) (s x n : ℕ) → s ≤ n → x ≤ n → pick b s x ≤ n

@@ -4,7 +4,6 @@ use rows::read;
 use types::thread::ThreadOption;
 ghost use mathlib.Core.Path.{_≡_};
 ghost use mathlib.Core.Bool.{true};
-ghost use Prim.Native.Nat.{_<_};
 ghost use lib.ListN.{length};
 ghost use Rattle.block.specs.Block.{decBlock};
 ghost use Rattle.sound.specs.Threads.{CurrentOk};

@@ -18,7 +18,6 @@ ghost use Rattle.thread.specs.Threads.{least};
 ghost use Rattle.svc.specs.Threads as def;
 ghost use Rattle.rows.specs.Rows.{threadPut};
 ghost use Rattle.outcome.specs.Outcome.{outcome, left};
-ghost use Rattle.outcome.specs.Findings.{foundOf};
 
 fn thread_named(x: KObject) -> ThreadOption
     ensures { λ t. ⌜ t ≡ def.threadNamed x ⌝ }

@@ -21,10 +21,6 @@ use Rattle.pass.specs.Timers.{firedSlot, overOf, anyOver, fireTimers}
 use Rattle.signal.proofs.Steps.{any-step, any-end}
 use Rattle.passing.specs.Timers.{fireTimers-parts, clearPulses-parts}
 
--- a pulse that is not there does not end
-pub unpulsed-same : (x : Slot) → x .pulsed ≡ false → unpulsedSlot x ≡ x
-unpulsed-same x e = let o : unpulsedSlot x .object ≡ x .object = rw e in λ i. record { object = o i; refcount = x .refcount; pulsed = sym e i }
-
 -- ---- whether a count of periods does not fit, where none of the first i slots has one
 module _ (tick : ℕ) (l : List Slot) (i : ℕ) (e : anyOver tick (drop i l) ≡ anyOver tick l) where
   step : i < length l → anyOver tick l ≡ overOf (getD l i noSlot .object) tick or anyOver tick (drop (i + 1) l)

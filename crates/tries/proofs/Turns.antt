@@ -2,10 +2,10 @@
 use mathlib.Core.Path.{_≡_, refl, sym, ap, subst, _∙_}
 use mathlib.Core.Bool.{Bool, true, false, true≢false}
 use mathlib.Core.List.{List, [], _∷_}
-use Prim.Native.Nat.{ℕ, zero, suc, _+_, _-_, _≤_, _<_}
+use Prim.Native.Nat.{ℕ, suc, _+_, _-_, _≤_, _<_}
 use native.Mathlib.Numerals.{add-one}
 use native.Mathlib.Omega.{arith}
-use lib.ListN.{length, take, set}
+use lib.ListN.{take, set}
 use Rattle.laws.specs.Logic.{_or_, or-false}
 use Rattle.types.specs.declared.thread.Thread.{Thread}
 use Rattle.types.specs.declared.object.ObjectStore.{ObjectStore}
@@ -32,7 +32,7 @@ use Rattle.pass.specs.Schedule.{tried}
 use Rattle.passing.specs.Timers.{clear-overflow}
 use Rattle.passing.specs.Awake.{during}
 use Rattle.passing.specs.Fates.{FateOk, fate-ok, list-short}
-use Rattle.passing.specs.Tries.{tryWait-sticks, tryWaits-sticks, tryWait-parts}
+use Rattle.passing.specs.Tries.{tryWaits-sticks, tryWait-parts}
 use Rattle.tries.specs.Tries.{after, isOver, took, waitsOf}
 
 -- the state k with other objects

@@ -11,7 +11,6 @@ use types::thread::Thread;
 use types::thread::ThreadStatus;
 use types::thread::WaitResult;
 use units::ObjectId;
-use wait::look;
 ghost use mathlib.Core.Path.{_≡_};
 ghost use mathlib.Core.Bool.{true, false};
 ghost use Prim.Native.Nat.{_+_, _<_};
@@ -121,7 +120,7 @@ fn try_wait(block: &mut [u8], i: u32, tick: u64) -> bool
 {
     let t = read::thread_at(block, i);
     let list = t.wait_objects;
-    let found = look::satisfied_at(block, i, t.wait_all, list, t.wait_count);
+    let found = wait::satisfied_at(block, i, t.wait_all, list, t.wait_count);
     let f = fate::fate_of(t, found, tick);
     if !is_over(f) {
         return false;

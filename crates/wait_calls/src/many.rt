@@ -13,7 +13,6 @@ use timer_calls::caught;
 use types::thread::ThreadOption;
 use types::thread::WaitSyscall;
 use units::ObjectId;
-use wait::look;
 ghost use mathlib.Core.Path.{_≡_};
 ghost use mathlib.Core.Bool.{true, false, not};
 ghost use mathlib.Core.Logic.{_⊎_};
@@ -145,7 +144,7 @@ fn wait_list(
     let c = types::thread::thread_value(current);
     let all = r.r3 != 0;
     let nanos = svc::read::pair(r.r0, r.r4);
-    let found = look::satisfied_at(block, c, all, l, n);
+    let found = wait::satisfied_at(block, c, all, l, n);
     wait_at(block, found, c, l, n, all, nanos, tick)
 }
 

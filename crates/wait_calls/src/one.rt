@@ -8,7 +8,6 @@ use timer_calls::caught;
 use types::thread::ThreadOption;
 use types::thread::WaitSyscall;
 use units::ObjectId;
-use wait::look;
 ghost use mathlib.Core.Path.{_≡_};
 ghost use mathlib.Core.Bool.{true, false};
 ghost use lib.ListN.{length};
@@ -31,7 +30,7 @@ fn wait_one(block: &mut [u8], c: u32, o: ObjectId, nanos: u64, tick: u64) -> Out
 {
     let x = read::slot_at(block, o.0);
     let v = x.object;
-    if look::signaled(block, v, c) {
+    if wait::signaled(block, v, c) {
         let found = take::take(block, o, c);
         if found != 0 {
             return outcome::refused(found);

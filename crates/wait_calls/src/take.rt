@@ -3,7 +3,6 @@ use rows::read;
 use rows::write;
 use types::thread::ThreadOption;
 use units::ObjectId;
-use wait::look;
 ghost use mathlib.Core.Path.{_≡_};
 ghost use mathlib.Core.Bool.{true, false};
 ghost use lib.ListN.{length, take};
@@ -30,7 +29,7 @@ pub fn over_now(block: &[u8], o: ObjectId) -> bool
         return false;
     }
     let v = x.object;
-    look::signaled(block, v, types::thread::thread_value(current))
+    wait::signaled(block, v, types::thread::thread_value(current))
 }
 
 // What question 8 finds, 0 for nothing: the lock count of a mutex may not fit any more. Then the block stays as it is.

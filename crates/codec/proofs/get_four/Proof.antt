@@ -2,9 +2,6 @@ use borrow.Author.Needs.{needs}
 use borrow.Author.Needs.{needs}
 use Rattle.codec.proofs.get_four.Statement.{statement}
 use Rattle.codec.proofs.get_four.Tie as tie
-use Rattle.codec.proofs.get_four.Reads as reads
-use Rattle.codec.proofs.get_four.Lts as lts
-use Rattle.codec.proofs.get32.Reads as get32-reads
 
 -- src/lib.rt:100:9
 get32-requires : tie.Need-get32-requires

@@ -2,9 +2,6 @@ use borrow.Author.Needs.{needs}
 use borrow.Author.Needs.{needs}
 use Rattle.codec.proofs.get_two.Statement.{statement}
 use Rattle.codec.proofs.get_two.Tie as tie
-use Rattle.codec.proofs.get_two.Reads as reads
-use Rattle.codec.proofs.get_two.Lts as lts
-use Rattle.codec.proofs.get32.Reads as get32-reads
 
 -- src/lib.rt:82:9
 get32-requires : tie.Need-get32-requires

@@ -10,9 +10,6 @@ use borrow.Author.Needs.{needs}
 use borrow.Author.Needs.{needs}
 use Rattle.codec.proofs.put_four.Statement.{statement}
 use Rattle.codec.proofs.put_four.Tie as tie
-use Rattle.codec.proofs.put_four.Reads as reads
-use Rattle.codec.proofs.put_four.Lts as lts
-use Rattle.codec.proofs.put_two.Reads as put-two-reads
 
 -- src/lib.rt:112:5
 put-two-requires : tie.Need-put-two-requires

@@ -6,9 +6,6 @@ use borrow.Author.Needs.{needs}
 use borrow.Author.Needs.{needs}
 use Rattle.codec.proofs.put_two.Statement.{statement}
 use Rattle.codec.proofs.put_two.Tie as tie
-use Rattle.codec.proofs.put_two.Reads as reads
-use Rattle.codec.proofs.put_two.Lts as lts
-use Rattle.codec.proofs.put32.Reads as put32-reads
 
 -- src/lib.rt:90:5
 put32-requires : tie.Need-put32-requires

@@ -11,9 +11,6 @@ use Rattle.codec.proofs.Laws.{over-none, length-bytes}
 use Rattle.codec.proofs.Rows.{write-more}
 use Rattle.codec.proofs.put_words16.Statement.{statement}
 use Rattle.codec.proofs.put_words16.Tie as tie
-use Rattle.codec.proofs.put_words16.Reads as reads
-use Rattle.codec.proofs.put_words16.Lts as lts
-use Rattle.codec.proofs.put32.Reads as put32-reads
 
 abbrev Inv-loop : tie.InvT-loop
 Inv-loop b₀ at l i₀ b i = (i ≤ 16) × (length b ≡ length b₀) × (b ≡ over b₀ at (encAll (bytes 4) (take i l)))

@@ -8,8 +8,6 @@ use Rattle.codec.proofs.Laws.{over-none, over-more}
 use borrow.Author.Needs.{needs}
 use Rattle.codec.proofs.put_zeros.Statement.{statement}
 use Rattle.codec.proofs.put_zeros.Tie as tie
-use Rattle.codec.proofs.put_zeros.Reads as reads
-use Rattle.codec.proofs.put_zeros.Lts as lts
 
 abbrev Inv-loop : tie.InvT-loop
 Inv-loop b₀ at n i₀ b i = (i ≤ n) × (length b ≡ length b₀) × (b ≡ over b₀ at (replicate i 0))

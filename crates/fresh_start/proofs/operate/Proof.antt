@@ -7,11 +7,6 @@ use Rattle.lent.specs.Operations.{freshStart}
 use borrow.Author.Needs.{needs}
 use Rattle.fresh_start.proofs.operate.Statement.{statement}
 use Rattle.fresh_start.proofs.operate.Tie as tie
-use Rattle.fresh_start.proofs.operate.Reads as reads
-use Rattle.fresh_start.proofs.operate.Lts as lts
-use Rattle.block.proofs.encode.Reads as encode-reads
-use Rattle.codec.proofs.put_zeros.Reads as put-zeros-reads
-use Rattle.kernel.proofs.fresh.fresh_kernel.Reads as fresh-kernel-reads
 
 returns : tie.Need-returns
 unfolding freshStart

@@ -9,12 +9,6 @@ use Rattle.lent.specs.Operations.{tickBytes}
 use borrow.Author.Needs.{needs}
 use Rattle.next_event.proofs.put_tick.Statement.{statement}
 use Rattle.next_event.proofs.put_tick.Tie as tie
-use Rattle.next_event.proofs.put_tick.Reads as reads
-use Rattle.next_event.proofs.put_tick.Lts as lts
-use Rattle.codec.proofs.put64.Reads as put64-reads
-use Rattle.codec.proofs.put_two.Reads as put-two-reads
-use Rattle.types.proofs.thread.tick_flag.Reads as tick-flag-reads
-use Rattle.types.proofs.thread.tick_value.Reads as tick-value-reads
 
 tick-flag-requires : tie.Need-tick-flag-requires
 tick-flag-requires c κs = search needs

@@ -3,8 +3,6 @@ use native.Mathlib.Omega.{arith}
 use borrow.Author.Tests.{lt-ltb, le-ltb}
 use Rattle.pick.proofs.best_place.Statement.{statement}
 use Rattle.pick.proofs.best_place.Tie as tie
-use Rattle.pick.proofs.best_place.Reads as reads
-use Rattle.pick.proofs.best_place.Lts as lts
 
 returns : tie.Need-returns
 returns c = (rw (lt-ltb _ _ (c .if1 .taken)), omega arith)

@@ -1,8 +1,6 @@
 use borrow.Author.Tests.{lt-ltb, le-ltb, eq-eqb, ne-eqb}
 use Rattle.pick.proofs.better_of.Statement.{statement}
 use Rattle.pick.proofs.better_of.Tie as tie
-use Rattle.pick.proofs.better_of.Reads as reads
-use Rattle.pick.proofs.better_of.Lts as lts
 
 returns : tie.Need-returns
 returns c = rw (eq-eqb _ 32 (c .if1 .taken))

@@ -3,10 +3,6 @@ use borrow.Author.Tests.{not-true, not-false}
 use borrow.Author.Needs.{needs}
 use Rattle.pick.proofs.better_priority.Statement.{statement}
 use Rattle.pick.proofs.better_priority.Tie as tie
-use Rattle.pick.proofs.better_priority.Reads as reads
-use Rattle.pick.proofs.better_priority.Lts as lts
-use Rattle.pick.proofs.is_runnable.Reads as is-runnable-reads
-use Rattle.thread.proofs.places.least_of.Reads as least-of-reads
 
 is-runnable-requires : tie.Need-is-runnable-requires
 is-runnable-requires c κs = search needs

@@ -6,9 +6,6 @@ use borrow.Author.Tests.{not-true, not-false}
 use borrow.Author.Needs.{needs}
 use Rattle.pick.proofs.keeps_at.Statement.{statement}
 use Rattle.pick.proofs.keeps_at.Tie as tie
-use Rattle.pick.proofs.keeps_at.Reads as reads
-use Rattle.pick.proofs.keeps_at.Lts as lts
-use Rattle.pick.proofs.is_running.Reads as is-running-reads
 
 returns : tie.Need-returns
 unfolding _and_

@@ -1,9 +1,6 @@
 use borrow.Author.Needs.{needs}
 use Rattle.pick.proofs.keeps_core.Statement.{statement}
 use Rattle.pick.proofs.keeps_core.Tie as tie
-use Rattle.pick.proofs.keeps_core.Reads as reads
-use Rattle.pick.proofs.keeps_core.Lts as lts
-use Rattle.pick.proofs.keeps_at.Reads as keeps-at-reads
 
 enum-told : tie.Need-enum-told
 enum-told c = search needs

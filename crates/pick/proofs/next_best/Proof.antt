@@ -3,10 +3,6 @@ use Prim.Native.Nat.{_-_}
 use borrow.Author.Needs.{needs}
 use Rattle.pick.proofs.next_best.Statement.{statement}
 use Rattle.pick.proofs.next_best.Tie as tie
-use Rattle.pick.proofs.next_best.Reads as reads
-use Rattle.pick.proofs.next_best.Lts as lts
-use Rattle.pick.proofs.better_of.Reads as better-of-reads
-use Rattle.pick.proofs.stands.Reads as stands-reads
 
 stands-requires : tie.Need-stands-requires
 stands-requires c κs = search needs

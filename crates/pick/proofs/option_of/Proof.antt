@@ -1,8 +1,6 @@
 use borrow.Author.Tests.{eq-eqb, ne-eqb}
 use Rattle.pick.proofs.option_of.Statement.{statement}
 use Rattle.pick.proofs.option_of.Tie as tie
-use Rattle.pick.proofs.option_of.Reads as reads
-use Rattle.pick.proofs.option_of.Lts as lts
 
 returns : tie.Need-returns
 returns c = rw (eq-eqb _ 32 (c .if1 .taken))

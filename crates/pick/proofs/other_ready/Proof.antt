@@ -3,10 +3,6 @@ use Rattle.laws.specs.Logic.{_and_}
 use borrow.Author.Needs.{needs}
 use Rattle.pick.proofs.other_ready.Statement.{statement}
 use Rattle.pick.proofs.other_ready.Tie as tie
-use Rattle.pick.proofs.other_ready.Reads as reads
-use Rattle.pick.proofs.other_ready.Lts as lts
-use Rattle.sound.proofs.is_current.Reads as is-current-reads
-use Rattle.pick.proofs.is_runnable.Reads as is-runnable-reads
 
 is-current-requires : tie.Need-is-current-requires
 is-current-requires c κs = search needs

@@ -8,9 +8,6 @@ use Rattle.pick.proofs.Steps.{others-step, others-end}
 use Rattle.pass.specs.Pick.{othersFrom}
 use Rattle.pick.proofs.others_ready.Statement.{statement}
 use Rattle.pick.proofs.others_ready.Tie as tie
-use Rattle.pick.proofs.others_ready.Reads as reads
-use Rattle.pick.proofs.others_ready.Lts as lts
-use Rattle.pick.proofs.other_ready.Reads as other-ready-reads
 
 abbrev Inv-loop : tie.InvT-loop
 Inv-loop c ts i₀ i = (i ≤ 32) × (othersFrom c i (drop i ts) ≡ othersFrom c 0 ts)

@@ -8,12 +8,6 @@ use Rattle.pick.proofs.Turns.{cyclic-cut}
 use borrow.Author.Needs.{needs}
 use Rattle.pick.proofs.pick_next.Statement.{statement}
 use Rattle.pick.proofs.pick_next.Tie as tie
-use Rattle.pick.proofs.pick_next.Reads as reads
-use Rattle.pick.proofs.pick_next.Lts as lts
-use Rattle.pick.proofs.best_priority.Reads as best-priority-reads
-use Rattle.pick.proofs.cyclic.Reads as cyclic-reads
-use Rattle.pick.proofs.keeps_core.Reads as keeps-core-reads
-use Rattle.pick.proofs.start_after.Reads as start-after-reads
 
 best-priority-requires : tie.Need-best-priority-requires
 best-priority-requires c κs = search needs

@@ -8,11 +8,6 @@ use Rattle.pick.specs.Best.{option}
 use Rattle.pick.proofs.Steps.{other-step, other-end, best-next, best-places}
 use Rattle.pick.proofs.pick_other.Statement.{statement}
 use Rattle.pick.proofs.pick_other.Tie as tie
-use Rattle.pick.proofs.pick_other.Reads as reads
-use Rattle.pick.proofs.pick_other.Lts as lts
-use Rattle.pick.proofs.best_place.Reads as best-place-reads
-use Rattle.pick.proofs.next_best.Reads as next-best-reads
-use Rattle.pick.proofs.option_of.Reads as option-of-reads
 
 abbrev Inv-loop : tie.InvT-loop
 Inv-loop chosen p ts b₀ i₀ b i = (i ≤ 32) × ((b ≤ 32) × (otherFrom ts chosen p (option b) (32 - i) i ≡ otherFrom ts chosen p NoThread 32 0))

@@ -4,8 +4,6 @@ use borrow.Author.Tests.{lt-ltb, le-ltb}
 use borrow.Author.Needs.{needs}
 use Rattle.pick.proofs.place_after.Statement.{statement}
 use Rattle.pick.proofs.place_after.Tie as tie
-use Rattle.pick.proofs.place_after.Reads as reads
-use Rattle.pick.proofs.place_after.Lts as lts
 
 add-result : tie.Need-add-result
 add-result c = search needs

@@ -4,9 +4,6 @@ use borrow.Author.Tests.{not-true, not-false}
 use borrow.Author.Needs.{needs}
 use Rattle.pick.proofs.runs_at.Statement.{statement}
 use Rattle.pick.proofs.runs_at.Tie as tie
-use Rattle.pick.proofs.runs_at.Reads as reads
-use Rattle.pick.proofs.runs_at.Lts as lts
-use Rattle.pick.proofs.is_runnable.Reads as is-runnable-reads
 
 is-runnable-requires : tie.Need-is-runnable-requires
 is-runnable-requires c κs = search needs

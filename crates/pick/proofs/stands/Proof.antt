@@ -4,9 +4,6 @@ use borrow.Author.Tests.{eq-eqb, ne-eqb, not-true, not-false}
 use borrow.Author.Needs.{needs}
 use Rattle.pick.proofs.stands.Statement.{statement}
 use Rattle.pick.proofs.stands.Tie as tie
-use Rattle.pick.proofs.stands.Reads as reads
-use Rattle.pick.proofs.stands.Lts as lts
-use Rattle.pick.proofs.is_runnable.Reads as is-runnable-reads
 
 returns : tie.Need-returns
 unfolding _and_

@@ -1,9 +1,6 @@
 use borrow.Author.Needs.{needs}
 use Rattle.pick.proofs.start_after.Statement.{statement}
 use Rattle.pick.proofs.start_after.Tie as tie
-use Rattle.pick.proofs.start_after.Reads as reads
-use Rattle.pick.proofs.start_after.Lts as lts
-use Rattle.pick.proofs.place_after.Reads as place-after-reads
 
 enum-told : tie.Need-enum-told
 enum-told c = search needs

@@ -8,13 +8,6 @@ use Rattle.block.proofs.Sizes.{length-two}
 use borrow.Author.Needs.{needs}
 use Rattle.quiet_release.proofs.put_release.Statement.{statement}
 use Rattle.quiet_release.proofs.put_release.Tie as tie
-use Rattle.quiet_release.proofs.put_release.Reads as reads
-use Rattle.quiet_release.proofs.put_release.Lts as lts
-use Rattle.codec.proofs.put32.Reads as put32-reads
-use Rattle.codec.proofs.put_two.Reads as put-two-reads
-use Rattle.quiet_release.proofs.release_flag.Reads as release-flag-reads
-use Rattle.quiet_release.proofs.release_frees.Reads as release-frees-reads
-use Rattle.quiet_release.proofs.release_object.Reads as release-object-reads
 
 release-flag-requires : tie.Need-release-flag-requires
 release-flag-requires c κs = search needs

@@ -3,7 +3,6 @@ use mathlib.Core.Path.{sym, ap, subst, _∙_}
 use Rattle.block.specs.Block.{decBlock}
 use Rattle.thread.specs.Threads.{withThreads}
 use Rattle.rows.specs.Holds.{Holds}
-use Rattle.release.specs.Encoded.{encoded-holds}
 use Rattle.release.proofs.Released.{released-dead, released-last, released-down, released}
 use borrow.Author.Needs.{needs}
 use Rattle.release.proofs.release.Statement.{statement}

@@ -8,12 +8,6 @@ use Rattle.block.specs.Table.{encId}
 use borrow.Author.Needs.{needs}
 use Rattle.satisfied_now.proofs.put_satisfied.Statement.{statement}
 use Rattle.satisfied_now.proofs.put_satisfied.Tie as tie
-use Rattle.satisfied_now.proofs.put_satisfied.Reads as reads
-use Rattle.satisfied_now.proofs.put_satisfied.Lts as lts
-use Rattle.block.proofs.table.put_ids8.Reads as put-ids8-reads
-use Rattle.codec.proofs.put_two.Reads as put-two-reads
-use Rattle.satisfied_now.proofs.index_flag.Reads as index-flag-reads
-use Rattle.satisfied_now.proofs.index_value.Reads as index-value-reads
 
 index-flag-requires : tie.Need-index-flag-requires
 index-flag-requires c κs = search needs

@@ -5,12 +5,6 @@ use Rattle.codec.proofs.Laws.{length-bytes, over-all}
 use borrow.Author.Needs.{needs}
 use Rattle.schedule.proofs.put_passed.Statement.{statement}
 use Rattle.schedule.proofs.put_passed.Tie as tie
-use Rattle.schedule.proofs.put_passed.Reads as reads
-use Rattle.schedule.proofs.put_passed.Lts as lts
-use Rattle.codec.proofs.put32.Reads as put32-reads
-use Rattle.schedule.proofs.flag.Reads as flag-reads
-use Rattle.schedule.proofs.restore.Reads as restore-reads
-use Rattle.schedule.proofs.save.Reads as save-reads
 
 save-requires : tie.Need-save-requires
 save-requires c κs = search needs

@@ -1,9 +1,6 @@
 use borrow.Author.Needs.{needs}
 use Rattle.schedule.proofs.restore.Statement.{statement}
 use Rattle.schedule.proofs.restore.Tie as tie
-use Rattle.schedule.proofs.restore.Reads as reads
-use Rattle.schedule.proofs.restore.Lts as lts
-use Rattle.schedule.proofs.restore_at.Reads as restore-at-reads
 
 enum-told : tie.Need-enum-told
 enum-told c = search needs

@@ -8,9 +8,6 @@ use borrow.Author.Tests.{lt-ltb, le-ltb}
 use borrow.Author.Needs.{needs}
 use Rattle.schedule.proofs.restore_at.Statement.{statement}
 use Rattle.schedule.proofs.restore_at.Tie as tie
-use Rattle.schedule.proofs.restore_at.Reads as reads
-use Rattle.schedule.proofs.restore_at.Lts as lts
-use Rattle.codec.proofs.copy.Reads as copy-reads
 
 returns : tie.Need-returns
 returns c = rw (le-ltb _ _ (c .if1 .taken))

@@ -1,9 +1,6 @@
 use borrow.Author.Needs.{needs}
 use Rattle.schedule.proofs.save.Statement.{statement}
 use Rattle.schedule.proofs.save.Tie as tie
-use Rattle.schedule.proofs.save.Reads as reads
-use Rattle.schedule.proofs.save.Lts as lts
-use Rattle.schedule.proofs.save_at.Reads as save-at-reads
 
 enum-told : tie.Need-enum-told
 enum-told c = search needs

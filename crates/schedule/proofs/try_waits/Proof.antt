@@ -1,6 +1,6 @@
 use Prim.Native.Nat.{ℕ}
 use lib.ListN.{length-replicate}
-use mathlib.Core.Path.{_≡_, refl, sym, _∙_}
+use mathlib.Core.Path.{sym, _∙_}
 use mathlib.Core.Bool.{true≢false}
 use Rattle.schedule.proofs.Passes.{restored}
 use borrow.Author.Needs.{needs}

@@ -1,8 +1,6 @@
 use borrow.Author.Needs.{needs}
 use Rattle.sound.proofs.is_current.Statement.{statement}
 use Rattle.sound.proofs.is_current.Tie as tie
-use Rattle.sound.proofs.is_current.Reads as reads
-use Rattle.sound.proofs.is_current.Lts as lts
 
 enum-told : tie.Need-enum-told
 enum-told c = search needs

@@ -1,4 +1,3 @@
-
 use borrow.Author.Needs.{needs}
 use Rattle.spawn.proofs.new_head.Statement.{statement}
 use Rattle.spawn.proofs.new_head.Tie as tie

@@ -1,5 +1,4 @@
-use mathlib.Core.Path.{_≡_, _∙_}
-use native.Mathlib.Omega.{arith}
+use mathlib.Core.Path.{_∙_}
 use Rattle.block.specs.Block.{decBlock}
 use Rattle.thread.proofs.Steps.{tls-le}
 use Rattle.spawn.proofs.Made.{count-is, made}

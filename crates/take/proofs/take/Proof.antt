@@ -1,4 +1,4 @@
-use mathlib.Core.Path.{_≡_, refl, sym, _∙_}
+use mathlib.Core.Path.{refl, sym, _∙_}
 use mathlib.Core.Bool.{true≢false}
 use Rattle.block.specs.Block.{decBlock}
 use Rattle.take.proofs.Taken.{over-is, taken}

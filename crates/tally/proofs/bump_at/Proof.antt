@@ -4,8 +4,6 @@ use Rattle.laws.specs.Tally.{bump}
 use borrow.Author.Needs.{needs}
 use Rattle.tally.proofs.bump_at.Statement.{statement}
 use Rattle.tally.proofs.bump_at.Tie as tie
-use Rattle.tally.proofs.bump_at.Reads as reads
-use Rattle.tally.proofs.bump_at.Lts as lts
 
 returns : tie.Need-returns
 unfolding bump

@@ -8,9 +8,6 @@ use Rattle.sound.specs.View.{ids}
 use borrow.Author.Needs.{needs}
 use Rattle.tally.proofs.tally_list.Statement.{statement}
 use Rattle.tally.proofs.tally_list.Tie as tie
-use Rattle.tally.proofs.tally_list.Reads as reads
-use Rattle.tally.proofs.tally_list.Lts as lts
-use Rattle.tally.proofs.bump_at.Reads as bump-at-reads
 
 abbrev Inv-loop : tie.InvT-loop
 Inv-loop c₀ l i₀ c i = (i ≤ 8) × (tally 129 c (ids (drop i l)) ≡ tally 129 c₀ (ids l))

@@ -8,10 +8,6 @@ use Rattle.tally.specs.Lists.{nameOf, names}
 use borrow.Author.Needs.{needs}
 use Rattle.tally.proofs.tally_names.Statement.{statement}
 use Rattle.tally.proofs.tally_names.Tie as tie
-use Rattle.tally.proofs.tally_names.Reads as reads
-use Rattle.tally.proofs.tally_names.Lts as lts
-use Rattle.tally.proofs.bump_at.Reads as bump-at-reads
-use Rattle.tally.proofs.name.Reads as name-reads
 
 abbrev Inv-loop : tie.InvT-loop
 Inv-loop c₀ l i₀ c i = (i ≤ 8) × (tally 129 c (names (drop i l)) ≡ tally 129 c₀ (names l))

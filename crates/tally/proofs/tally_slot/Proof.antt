@@ -3,10 +3,6 @@ use Rattle.laws.specs.Tally.{tally}
 use borrow.Author.Needs.{needs}
 use Rattle.tally.proofs.tally_slot.Statement.{statement}
 use Rattle.tally.proofs.tally_slot.Tie as tie
-use Rattle.tally.proofs.tally_slot.Reads as reads
-use Rattle.tally.proofs.tally_slot.Lts as lts
-use Rattle.tally.proofs.bump_at.Reads as bump-at-reads
-use Rattle.types.proofs.thread.is_dead.Reads as is-dead-reads
 
 is-dead-requires : tie.Need-is-dead-requires
 is-dead-requires c κs = search needs

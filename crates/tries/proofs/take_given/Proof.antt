@@ -1,4 +1,4 @@
-use mathlib.Core.Path.{_≡_, sym, ap, _∙_}
+use mathlib.Core.Path.{ap, _∙_}
 use Rattle.block.specs.Block.{decBlock}
 use Rattle.thread.specs.Threads.{withThreads}
 use Rattle.tries.proofs.Turns.{one-taken, one-is}

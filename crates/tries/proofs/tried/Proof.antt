@@ -2,10 +2,6 @@ use Prim.Native.Nat.{_-_}
 use borrow.Author.Needs.{needs}
 use Rattle.tries.proofs.tried.Statement.{statement}
 use Rattle.tries.proofs.tried.Tie as tie
-use Rattle.tries.proofs.tried.Reads as reads
-use Rattle.tries.proofs.tried.Lts as lts
-use Rattle.tries.proofs.slept.Reads as slept-reads
-use Rattle.tries.proofs.woken.Reads as woken-reads
 
 enum-told : tie.Need-enum-told
 enum-told c = search needs

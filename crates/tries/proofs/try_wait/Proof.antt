@@ -1,9 +1,7 @@
-use mathlib.Core.Path.{_≡_, sym, ap, subst, _∙_}
+use mathlib.Core.Path.{sym, ap, _∙_}
 use mathlib.Core.Bool.{true≢false}
 use borrow.Author.Tests.{not-true, not-false}
-use Rattle.types.specs.declared.thread.Thread.{Thread}
 use Rattle.block.specs.Block.{decBlock}
-use Rattle.pass.specs.declared.Fate.{Fate}
 use Rattle.release.specs.Encoded.{sound-encoded}
 use Rattle.tries.specs.Tries.{isOver, took}
 use Rattle.tries.proofs.Turns.{fate-is, stays, lives, over-is, turned}

@@ -3,11 +3,6 @@ use Prim.Native.Nat.{_-_}
 use borrow.Author.Needs.{needs}
 use Rattle.tries.proofs.woken.Statement.{statement}
 use Rattle.tries.proofs.woken.Tie as tie
-use Rattle.tries.proofs.woken.Reads as reads
-use Rattle.tries.proofs.woken.Lts as lts
-use Rattle.thread.proofs.thread.without_wait.Reads as without-wait-reads
-use Rattle.thread.proofs.thread.with_result.Reads as with-result-reads
-use Rattle.thread.proofs.thread.with_status.Reads as with-status-reads
 
 without-wait-requires : tie.Need-without-wait-requires
 without-wait-requires c κs = search needs

@@ -7,7 +7,6 @@ use Rattle.dispatch.proofs.Numbers.{silent-outcome}
 use borrow.Author.Needs.{needs}
 use Rattle.dispatch.proofs.call.no_call.Statement.{statement}
 use Rattle.dispatch.proofs.call.no_call.Tie as tie
-use Rattle.dispatch.proofs.call.no_call.Lts as lts
 
 out-of-handles-requires : tie.Need-out-of-handles-requires
 out-of-handles-requires c κs = search needs
@@ -19,7 +18,7 @@ refused-requires : tie.Need-refused-requires
 refused-requires c κs = search needs
 
 returns : tie.Need-returns
-returns c =     let b = c .before .before .before .before .args .block .now in
+returns c = let b = c .before .before .before .before .args .block .now in
     rw (c .refused .ensures, c .before .found-of .ensures, c .before .before .out-of-handles .ensures) (ap (λ (n : ℕ). refused n) (sym (same-finding b)) ∙ silent-outcome (decBlock b))
 
 pub no-call-spec : {M : Type 1} → statement M

@@ -1,8 +1,6 @@
-use mathlib.Core.Path.{_≡_, sym, ap, subst, _∙_}
+use mathlib.Core.Path.{sym, ap, subst, _∙_}
 use native.Mathlib.Omega.{arith}
-use Rattle.types.specs.declared.kernel.Kernel.{Kernel}
 use Rattle.block.specs.Block.{decBlock}
-use Rattle.object.specs.Handles.{objectOf}
 use Rattle.rows.specs.Holds.{Holds, holds}
 use Rattle.release.specs.Encoded.{sound-encoded}
 use Rattle.handle_calls.proofs.Removed.{entry-is}

@@ -31,7 +31,7 @@ found-of-requires : tie.Need-found-of-requires
 found-of-requires c κs = search needs
 
 without-room-requires : tie.Need-without-room-requires
-without-room-requires c κs =     let b = c .before .before .before .before .before .before .before .before .args .block .now in
+without-room-requires c κs = let b = c .before .before .before .before .before .before .before .before .args .block .now in
     let f = c .before .before .found-of .ensures ∙ (λ i. foundOf (leb 256 ((c .before .before .before .get322 .ensures ∙ count-is b) i)) (leb 0xFFFF8000 ((c .before .before .before .before .before .get32 .ensures ∙ next-is b) i))) in
     (c .before .before .before .before .before .before .before .before .pre .0, (c .before .before .before .before .before .before .before .before .pre .1, (f, c .before .if1 .taken)))
 
@@ -51,7 +51,7 @@ same-length-2 : tie.Need-same-length-2
 same-length-2 c = search needs
 
 returns-2 : tie.Need-returns-2
-returns-2 c =     let b = c .before .before .before .before .before .before .before .before .before .before .before .before .before .before .args .block .now in
+returns-2 c = let b = c .before .before .before .before .before .before .before .before .before .before .before .before .before .before .args .block .now in
     let f = c .before .before .before .before .before .before .before .before .found-of .ensures ∙ (λ i. foundOf (leb 256 ((c .before .before .before .before .before .before .before .before .before .get322 .ensures ∙ count-is b) i)) (leb 0xFFFF8000 ((c .before .before .before .before .before .before .before .before .before .before .before .get32 .ensures ∙ next-is b) i))) in
     let w = room-for (c .before .before .before .before .before .before .before .before .found-of .result) (decBlock b .handles .count) (decBlock b .handles .next .0) f (c .before .before .before .before .before .before .before .if1 .left) in
     refused-call b (c .before .before .before .before .before .before .before .before .before .before .before .before .before .before .args .r .r1) _ (c .before .before .before .before .before .«open» .result) (c .before .before .before .before .before .«open» .ensures .0) (duplicateHandle (decBlock b) (c .before .before .before .before .before .before .before .before .before .before .before .before .before .before .args .r)) (duplicate-finding b (c .before .before .before .before .before .before .before .before .before .before .before .before .before .before .args .r) (w .0) (w .1)) (c .before .if2 .taken) _ (c .refused .ensures)
@@ -64,7 +64,7 @@ same-length-3 c = search needs
 
 returns-3 : tie.Need-returns-3
 unfolding duplicateHandle
-returns-3 c =     let b = c .before .before .before .before .before .before .before .before .before .before .before .before .before .before .before .before .before .args .block .now in
+returns-3 c = let b = c .before .before .before .before .before .before .before .before .before .before .before .before .before .before .before .before .before .args .block .now in
     let f = c .before .before .before .before .before .before .before .before .before .before .before .found-of .ensures ∙ (λ i. foundOf (leb 256 ((c .before .before .before .before .before .before .before .before .before .before .before .before .get322 .ensures ∙ count-is b) i)) (leb 0xFFFF8000 ((c .before .before .before .before .before .before .before .before .before .before .before .before .before .before .get32 .ensures ∙ next-is b) i))) in
     let w = room-for (c .before .before .before .before .before .before .before .before .before .before .before .found-of .result) (decBlock b .handles .count) (decBlock b .handles .next .0) f (c .before .before .before .before .before .before .before .before .before .before .if1 .left) in
     let p = c .before .before .before .before .before .before .before .before .«open» .ensures .0 in
@@ -73,7 +73,7 @@ returns-3 c =     let b = c .before .before .before .before .before .before .bef
     accepted-call b (c .before .before .before .before .before .before .before .before .before .before .before .before .before .before .before .before .before .args .r .r1) _ (c .before .before .before .before .before .before .before .before .«open» .result) p (duplicateHandle (decBlock b) (c .before .before .before .before .before .before .before .before .before .before .before .before .before .before .before .before .before .args .r)) (duplicate-finding b (c .before .before .before .before .before .before .before .before .before .before .before .before .before .before .before .before .before .args .r) (w .0) (w .1)) (c .before .before .before .before .if2 .left) _ u _ (c .answers .ensures) _ (p .holds (c .before .before .before .before .if2 .left))
 
 put-duplicate-requires : tie.Need-put-duplicate-requires
-put-duplicate-requires c κs =     let b = c .before .before .before .before .before .before .before .before .before .before .before .before .before .before .before .before .before .args .block .now in
+put-duplicate-requires c κs = let b = c .before .before .before .before .before .before .before .before .before .before .before .before .before .before .before .before .before .args .block .now in
     let f = c .before .before .before .before .before .before .before .before .before .before .before .found-of .ensures ∙ (λ i. foundOf (leb 256 ((c .before .before .before .before .before .before .before .before .before .before .before .before .get322 .ensures ∙ count-is b) i)) (leb 0xFFFF8000 ((c .before .before .before .before .before .before .before .before .before .before .before .before .before .before .get32 .ensures ∙ next-is b) i))) in
     let w = room-for (c .before .before .before .before .before .before .before .before .before .before .before .found-of .result) (decBlock b .handles .count) (decBlock b .handles .next .0) f (c .before .before .before .before .before .before .before .before .before .before .if1 .left) in
     let k = opened-state b (c .before .before .before .before .before .before .before .before .before .before .before .before .before .before .before .before .before .pre .1) (c .before .before .before .before .before .before .before .before .before .before .before .before .before .before .before .before .before .args .r .r1) _ _ (c .before .before .before .before .before .before .before .before .«open» .ensures .0) (c .before .before .before .before .if2 .left) in
@@ -87,7 +87,7 @@ same-length-4 c = search needs
 
 returns-4 : tie.Need-returns-4
 unfolding duplicateHandle create
-returns-4 c =     let b = c .before .before .before .before .before .before .before .before .before .before .before .before .before .before .before .before .before .before .before .before .before .args .block .now in
+returns-4 c = let b = c .before .before .before .before .before .before .before .before .before .before .before .before .before .before .before .before .before .before .before .before .before .args .block .now in
     let f = c .before .before .before .before .before .before .before .before .before .before .before .before .before .before .before .found-of .ensures ∙ (λ i. foundOf (leb 256 ((c .before .before .before .before .before .before .before .before .before .before .before .before .before .before .before .before .get322 .ensures ∙ count-is b) i)) (leb 0xFFFF8000 ((c .before .before .before .before .before .before .before .before .before .before .before .before .before .before .before .before .before .before .get32 .ensures ∙ next-is b) i))) in
     let w = room-for (c .before .before .before .before .before .before .before .before .before .before .before .before .before .before .before .found-of .result) (decBlock b .handles .count) (decBlock b .handles .next .0) f (c .before .before .before .before .before .before .before .before .before .before .before .before .before .before .if1 .left) in
     let p = c .before .before .before .before .before .before .before .before .before .before .before .before .«open» .ensures .0 in

@@ -9,10 +9,6 @@ use Rattle.kernel.proofs.Rows.{row-step, row-end}
 use borrow.Author.Needs.{needs}
 use Rattle.kernel.proofs.fresh.free_slots.Statement.{statement}
 use Rattle.kernel.proofs.fresh.free_slots.Tie as tie
-use Rattle.kernel.proofs.fresh.free_slots.Reads as reads
-use Rattle.kernel.proofs.fresh.free_slots.Lts as lts
-use Rattle.kernel.proofs.fresh.free_slot.Reads as free-slot-reads
-use Rattle.kernel.proofs.fresh.next_number.Reads as next-number-reads
 
 abbrev Inv-loop : tie.InvT-loop
 Inv-loop l₀ i₀ l i = (i ≤ 128) × ((length l ≡ 128) × (take i l ++ inRow freeSlot (128 - i) (i + 2) ≡ inRow freeSlot 128 2))

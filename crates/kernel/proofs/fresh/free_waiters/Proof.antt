@@ -9,10 +9,6 @@ use Rattle.kernel.proofs.Rows.{row-step, row-end}
 use borrow.Author.Needs.{needs}
 use Rattle.kernel.proofs.fresh.free_waiters.Statement.{statement}
 use Rattle.kernel.proofs.fresh.free_waiters.Tie as tie
-use Rattle.kernel.proofs.fresh.free_waiters.Reads as reads
-use Rattle.kernel.proofs.fresh.free_waiters.Lts as lts
-use Rattle.kernel.proofs.fresh.free_waiter.Reads as free-waiter-reads
-use Rattle.kernel.proofs.fresh.next_number.Reads as next-number-reads
 
 abbrev Inv-loop : tie.InvT-loop
 Inv-loop l₀ i₀ l i = (i ≤ 64) × ((length l ≡ 64) × (take i l ++ inRow freeWaiter (64 - i) (i + 2) ≡ inRow freeWaiter 64 2))

@@ -2,11 +2,6 @@ use Rattle.kernel.specs.Fresh.{fresh}
 use borrow.Author.Needs.{needs}
 use Rattle.kernel.proofs.fresh.fresh_kernel.Statement.{statement}
 use Rattle.kernel.proofs.fresh.fresh_kernel.Tie as tie
-use Rattle.kernel.proofs.fresh.fresh_kernel.Reads as reads
-use Rattle.kernel.proofs.fresh.fresh_kernel.Lts as lts
-use Rattle.kernel.proofs.fresh.blank_thread.Reads as blank-thread-reads
-use Rattle.kernel.proofs.fresh.fresh_handles.Reads as fresh-handles-reads
-use Rattle.kernel.proofs.fresh.fresh_objects.Reads as fresh-objects-reads
 
 blank-thread-requires : tie.Need-blank-thread-requires
 blank-thread-requires c κs = search needs

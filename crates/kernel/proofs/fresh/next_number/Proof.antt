@@ -4,8 +4,6 @@ use Prim.Native.Nat.{_-_}
 use borrow.Author.Needs.{needs}
 use Rattle.kernel.proofs.fresh.next_number.Statement.{statement}
 use Rattle.kernel.proofs.fresh.next_number.Tie as tie
-use Rattle.kernel.proofs.fresh.next_number.Reads as reads
-use Rattle.kernel.proofs.fresh.next_number.Lts as lts
 
 sub-if1 : tie.Need-sub-if1
 sub-if1 c = search needs

@@ -1,8 +1,6 @@
 use borrow.Author.Tests.{lt-ltb, le-ltb, eq-eqb, ne-eqb}
 use Rattle.kernel.proofs.next_event.earlier_of.Statement.{statement}
 use Rattle.kernel.proofs.next_event.earlier_of.Tie as tie
-use Rattle.kernel.proofs.next_event.earlier_of.Reads as reads
-use Rattle.kernel.proofs.next_event.earlier_of.Lts as lts
 
 returns : tie.Need-returns
 returns c = rw (eq-eqb _ 0 (c .if1 .taken))

@@ -2,9 +2,6 @@ use mathlib.Core.Path.{_∙_}
 use borrow.Author.Needs.{needs}
 use Rattle.kernel.proofs.next_event.earlier_option.Statement.{statement}
 use Rattle.kernel.proofs.next_event.earlier_option.Tie as tie
-use Rattle.kernel.proofs.next_event.earlier_option.Reads as reads
-use Rattle.kernel.proofs.next_event.earlier_option.Lts as lts
-use Rattle.kernel.proofs.next_event.earlier_of.Reads as earlier-of-reads
 
 enum-told : tie.Need-enum-told
 enum-told c = search needs

@@ -7,10 +7,6 @@ use Rattle.units.specs.declared.ObjectId.{ObjectId}
 use borrow.Author.Needs.{needs}
 use Rattle.kernel.proofs.next_event.mark_list.Statement.{statement}
 use Rattle.kernel.proofs.next_event.mark_list.Tie as tie
-use Rattle.kernel.proofs.next_event.mark_list.Reads as reads
-use Rattle.kernel.proofs.next_event.mark_list.Lts as lts
-use Rattle.kernel.proofs.next_event.blocked.Reads as blocked-reads
-use Rattle.tally.proofs.tally_list.Reads as tally-list-reads
 
 blocked-requires : tie.Need-blocked-requires
 blocked-requires c κs = search needs

@@ -2,10 +2,6 @@ use mathlib.Core.Path.{sym, _∙_}
 use borrow.Author.Needs.{needs}
 use Rattle.kernel.proofs.next_event.wake_after.Statement.{statement}
 use Rattle.kernel.proofs.next_event.wake_after.Tie as tie
-use Rattle.kernel.proofs.next_event.wake_after.Reads as reads
-use Rattle.kernel.proofs.next_event.wake_after.Lts as lts
-use Rattle.kernel.proofs.next_event.earlier_option.Reads as earlier-option-reads
-use Rattle.types.proofs.thread.is_blocked.Reads as is-blocked-reads
 
 is-blocked-requires : tie.Need-is-blocked-requires
 is-blocked-requires c κs = search needs

@@ -2,8 +2,6 @@ use mathlib.Core.Path.{refl}
 use Rattle.lent.specs.Operations.{outOfHandles?}
 use Rattle.lent.proofs.questions.out_of_handles.Statement.{statement}
 use Rattle.lent.proofs.questions.out_of_handles.Tie as tie
-use Rattle.lent.proofs.questions.out_of_handles.Reads as reads
-use Rattle.lent.proofs.questions.out_of_handles.Lts as lts
 
 returns : tie.Need-returns
 unfolding outOfHandles?

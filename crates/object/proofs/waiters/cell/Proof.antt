@@ -5,8 +5,6 @@ use Rattle.object.proofs.Cells.{at-none, at-pos}
 use borrow.Author.Needs.{needs}
 use Rattle.object.proofs.waiters.cell.Statement.{statement}
 use Rattle.object.proofs.waiters.cell.Tie as tie
-use Rattle.object.proofs.waiters.cell.Reads as reads
-use Rattle.object.proofs.waiters.cell.Lts as lts
 
 returns : tie.Need-returns
 returns c = at-none _ _ (c .if1 .taken)

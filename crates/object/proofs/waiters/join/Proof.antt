@@ -7,8 +7,6 @@ use Rattle.object.proofs.Cells.{join-more, join-done}
 use borrow.Author.Needs.{needs}
 use Rattle.object.proofs.waiters.join.Statement.{statement}
 use Rattle.object.proofs.waiters.join.Tie as tie
-use Rattle.object.proofs.waiters.join.Reads as reads
-use Rattle.object.proofs.waiters.join.Lts as lts
 
 abbrev Inv-loop : tie.InvT-loop
 Inv-loop threads addresses nexts l₀ i₀ l i = (i ≤ 64) × ((length l ≡ 64) × (take i l ≡ joined (take i threads) (take i addresses) (take i nexts)))

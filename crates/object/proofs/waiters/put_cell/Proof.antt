@@ -3,8 +3,6 @@ use Rattle.object.proofs.Cells.{put-none, put-pos, put-far}
 use borrow.Author.Needs.{needs}
 use Rattle.object.proofs.waiters.put_cell.Statement.{statement}
 use Rattle.object.proofs.waiters.put_cell.Tie as tie
-use Rattle.object.proofs.waiters.put_cell.Reads as reads
-use Rattle.object.proofs.waiters.put_cell.Lts as lts
 
 returns : tie.Need-returns
 returns c = put-none _ _ _ (c .if1 .taken)

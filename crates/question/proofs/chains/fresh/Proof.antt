@@ -4,8 +4,6 @@ use Rattle.question.specs.Apart.{fresh?, marked}
 use borrow.Author.Needs.{needs}
 use Rattle.question.proofs.chains.fresh.Statement.{statement}
 use Rattle.question.proofs.chains.fresh.Tie as tie
-use Rattle.question.proofs.chains.fresh.Reads as reads
-use Rattle.question.proofs.chains.fresh.Lts as lts
 
 returns : tie.Need-returns
 unfolding fresh? marked _and_

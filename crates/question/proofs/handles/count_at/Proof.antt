@@ -4,8 +4,6 @@ use Rattle.laws.specs.Tally.{bump}
 use borrow.Author.Needs.{needs}
 use Rattle.question.proofs.handles.count_at.Statement.{statement}
 use Rattle.question.proofs.handles.count_at.Tie as tie
-use Rattle.question.proofs.handles.count_at.Reads as reads
-use Rattle.question.proofs.handles.count_at.Lts as lts
 
 mul-v : tie.Need-mul-v
 mul-v c = search needs

@@ -9,10 +9,6 @@ use borrow.Author.Tests.{not-true, not-false}
 use Rattle.laws.specs.Logic.{and-no, and-yes}
 use Rattle.question.proofs.objects.held_ok.Statement.{statement}
 use Rattle.question.proofs.objects.held_ok.Tie as tie
-use Rattle.question.proofs.objects.held_ok.Reads as reads
-use Rattle.question.proofs.objects.held_ok.Lts as lts
-use Rattle.question.proofs.chains.mark_chain.Reads as mark-chain-reads
-use Rattle.question.proofs.objects.slots_ok.Reads as slots-ok-reads
 
 mark-chain-requires : tie.Need-mark-chain-requires
 mark-chain-requires c κs = (omega arith, length-part (c .before .args .ns .now) 0 128 (omega (arith, c .before .pre)))

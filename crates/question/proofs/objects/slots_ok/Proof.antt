@@ -11,10 +11,6 @@ use Rattle.question.proofs.Steps.{fault-turn, fault-small}
 use borrow.Author.Needs.{needs}
 use Rattle.question.proofs.objects.slots_ok.Statement.{statement}
 use Rattle.question.proofs.objects.slots_ok.Tie as tie
-use Rattle.question.proofs.objects.slots_ok.Reads as reads
-use Rattle.question.proofs.objects.slots_ok.Lts as lts
-use Rattle.question.proofs.faults.fault.Reads as fault-reads
-use Rattle.question.proofs.objects.slot_ok.Reads as slot-ok-reads
 
 abbrev Inv-loop : tie.InvT-loop
 Inv-loop ks rs c m bad₀ o₀ bad o = (o ≤ 128) × ((bad + o ≤ 128) × (eqb bad 0 and slots? ks rs c m o ≡ slots? ks rs c m 128))

@@ -6,11 +6,6 @@ use Rattle.sound.specs.Threads.{zeros?, places?, blank?}
 use borrow.Author.Needs.{needs}
 use Rattle.question.proofs.threads.blank_ok.Statement.{statement}
 use Rattle.question.proofs.threads.blank_ok.Tie as tie
-use Rattle.question.proofs.threads.blank_ok.Reads as reads
-use Rattle.question.proofs.threads.blank_ok.Lts as lts
-use Rattle.block.proofs.thread.thread_words.Reads as thread-words-reads
-use Rattle.question.proofs.threads.places_ok.Reads as places-ok-reads
-use Rattle.question.proofs.threads.words_zero.Reads as words-zero-reads
 
 thread-words-requires : tie.Need-thread-words-requires
 thread-words-requires c κs = search needs

@@ -2,8 +2,6 @@ use borrow.Author.Tests.{eq-eqb, ne-eqb}
 use Rattle.laws.specs.Logic.{_and_}
 use Rattle.question.proofs.threads.four_zero.Statement.{statement}
 use Rattle.question.proofs.threads.four_zero.Tie as tie
-use Rattle.question.proofs.threads.four_zero.Reads as reads
-use Rattle.question.proofs.threads.four_zero.Lts as lts
 
 returns : tie.Need-returns
 unfolding _and_

@@ -4,8 +4,6 @@ use Rattle.laws.specs.Logic.{_and_}
 use Rattle.question.specs.Linear.{onePlace?}
 use Rattle.question.proofs.threads.one_place_ok.Statement.{statement}
 use Rattle.question.proofs.threads.one_place_ok.Tie as tie
-use Rattle.question.proofs.threads.one_place_ok.Reads as reads
-use Rattle.question.proofs.threads.one_place_ok.Lts as lts
 
 returns : tie.Need-returns
 unfolding onePlace? _and_

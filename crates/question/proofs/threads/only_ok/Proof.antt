@@ -1,8 +1,6 @@
 use borrow.Author.Needs.{needs}
 use Rattle.question.proofs.threads.only_ok.Statement.{statement}
 use Rattle.question.proofs.threads.only_ok.Tie as tie
-use Rattle.question.proofs.threads.only_ok.Reads as reads
-use Rattle.question.proofs.threads.only_ok.Lts as lts
 
 enum-told : tie.Need-enum-told
 enum-told c = search needs

@@ -3,10 +3,6 @@ use Rattle.sound.specs.Threads.{place?}
 use borrow.Author.Needs.{needs}
 use Rattle.question.proofs.threads.place_ok.Statement.{statement}
 use Rattle.question.proofs.threads.place_ok.Tie as tie
-use Rattle.question.proofs.threads.place_ok.Reads as reads
-use Rattle.question.proofs.threads.place_ok.Lts as lts
-use Rattle.question.proofs.threads.blank_ok.Reads as blank-ok-reads
-use Rattle.question.proofs.threads.thread_ok.Reads as thread-ok-reads
 
 thread-ok-requires : tie.Need-thread-ok-requires
 thread-ok-requires c κs = search needs

@@ -14,10 +14,6 @@ use Rattle.question.proofs.Steps.{fault-turn, fault-small, places-step,
 use borrow.Author.Needs.{needs}
 use Rattle.question.proofs.threads.some_ok.Statement.{statement}
 use Rattle.question.proofs.threads.some_ok.Tie as tie
-use Rattle.question.proofs.threads.some_ok.Reads as reads
-use Rattle.question.proofs.threads.some_ok.Lts as lts
-use Rattle.question.proofs.faults.fault.Reads as fault-reads
-use Rattle.question.proofs.threads.one_place_ok.Reads as one-place-ok-reads
 
 abbrev Inv-loop : tie.InvT-loop
 Inv-loop n l bad₀ i₀ bad i = (i ≤ 8) × ((bad ≤ i) × (eqb bad 0 and places? (n - i) (ids (drop i l)) ≡ places? n (ids l)))

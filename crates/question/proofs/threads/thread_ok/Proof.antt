@@ -7,12 +7,6 @@ use Rattle.question.proofs.Steps.{runs-is}
 use borrow.Author.Needs.{needs}
 use Rattle.question.proofs.threads.thread_ok.Statement.{statement}
 use Rattle.question.proofs.threads.thread_ok.Tie as tie
-use Rattle.question.proofs.threads.thread_ok.Reads as reads
-use Rattle.question.proofs.threads.thread_ok.Lts as lts
-use Rattle.sound.proofs.is_current.Reads as is-current-reads
-use Rattle.question.proofs.threads.only_ok.Reads as only-ok-reads
-use Rattle.question.proofs.threads.places_ok.Reads as places-ok-reads
-use Rattle.question.proofs.threads.run_ok.Reads as run-ok-reads
 
 returns : tie.Need-returns
 unfolding thread?

@@ -6,10 +6,6 @@ use Rattle.question.specs.Linear.{places32?}
 use borrow.Author.Needs.{needs}
 use Rattle.question.proofs.threads.threads_ok.Statement.{statement}
 use Rattle.question.proofs.threads.threads_ok.Tie as tie
-use Rattle.question.proofs.threads.threads_ok.Reads as reads
-use Rattle.question.proofs.threads.threads_ok.Lts as lts
-use Rattle.question.proofs.threads.all_places_ok.Reads as all-places-ok-reads
-use Rattle.question.proofs.threads.current_ok.Reads as current-ok-reads
 
 returns : tie.Need-returns
 unfolding threads?

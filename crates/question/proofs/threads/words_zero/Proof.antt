@@ -5,9 +5,6 @@ use Rattle.question.proofs.Steps.{four-zeros, two-zeros}
 use borrow.Author.Needs.{needs}
 use Rattle.question.proofs.threads.words_zero.Statement.{statement}
 use Rattle.question.proofs.threads.words_zero.Tie as tie
-use Rattle.question.proofs.threads.words_zero.Reads as reads
-use Rattle.question.proofs.threads.words_zero.Lts as lts
-use Rattle.question.proofs.threads.four_zero.Reads as four-zero-reads
 
 four-zero-requires : tie.Need-four-zero-requires
 four-zero-requires c κs = search needs

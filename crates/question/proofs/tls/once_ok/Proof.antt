@@ -9,8 +9,6 @@ use Rattle.question.specs.Linear.{once32?}
 use borrow.Author.Needs.{needs}
 use Rattle.question.proofs.tls.once_ok.Statement.{statement}
 use Rattle.question.proofs.tls.once_ok.Tie as tie
-use Rattle.question.proofs.tls.once_ok.Reads as reads
-use Rattle.question.proofs.tls.once_ok.Lts as lts
 
 abbrev Inv-loop : tie.InvT-loop
 Inv-loop m i₀ i = (i ≤ 32) × (allBelow i (λ s. leb (getD m s 0) 1) ≡ once32? m)

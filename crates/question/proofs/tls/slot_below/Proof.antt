@@ -4,9 +4,6 @@ use Rattle.sound.specs.Tls.{below?}
 use borrow.Author.Needs.{needs}
 use Rattle.question.proofs.tls.slot_below.Statement.{statement}
 use Rattle.question.proofs.tls.slot_below.Tie as tie
-use Rattle.question.proofs.tls.slot_below.Reads as reads
-use Rattle.question.proofs.tls.slot_below.Lts as lts
-use Rattle.types.proofs.thread.is_dead.Reads as is-dead-reads
 
 is-dead-requires : tie.Need-is-dead-requires
 is-dead-requires c κs = search needs

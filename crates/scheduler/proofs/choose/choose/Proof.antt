@@ -7,20 +7,6 @@ use Rattle.scheduler.specs.Place.{choose-is}
 use borrow.Author.Needs.{needs}
 use Rattle.scheduler.proofs.choose.choose.Statement.{statement}
 use Rattle.scheduler.proofs.choose.choose.Tie as tie
-use Rattle.scheduler.proofs.choose.choose.Reads as reads
-use Rattle.scheduler.proofs.choose.choose.Lts as lts
-use Rattle.scheduler.proofs.choose.chosen.Reads as chosen-reads
-use Rattle.scheduler.proofs.choose.flipped.Reads as flipped-reads
-use Rattle.scheduler.proofs.choose.stays.Reads as stays-reads
-use Rattle.scheduler.proofs.choose.switches.Reads as switches-reads
-use Rattle.scheduler.proofs.choose.unless.Reads as unless-reads
-use Rattle.pick.proofs.pick_next.Reads as pick-next-reads
-use Rattle.scheduler.proofs.run.begin_run.Reads as begin-run-reads
-use Rattle.scheduler.proofs.run.leave_core.Reads as leave-core-reads
-use Rattle.scheduler.proofs.run.mark_waited.Reads as mark-waited-reads
-use Rattle.scheduler.proofs.run.place_of.Reads as place-of-reads
-use Rattle.scheduler.proofs.run.starving.Reads as starving-reads
-use Rattle.scheduler.proofs.run.take_core.Reads as take-core-reads
 
 place-of-requires : tie.Need-place-of-requires
 place-of-requires c κs = search needs

@@ -4,9 +4,6 @@ use Rattle.laws.specs.Logic.{_and_}
 use borrow.Author.Needs.{needs}
 use Rattle.scheduler.proofs.choose.chosen.Statement.{statement}
 use Rattle.scheduler.proofs.choose.chosen.Tie as tie
-use Rattle.scheduler.proofs.choose.chosen.Reads as reads
-use Rattle.scheduler.proofs.choose.chosen.Lts as lts
-use Rattle.scheduler.proofs.choose.stand_in.Reads as stand-in-reads
 
 returns : tie.Need-returns
 unfolding _and_

@@ -1,8 +1,6 @@
 use borrow.Author.Needs.{needs}
 use Rattle.scheduler.proofs.choose.or_else.Statement.{statement}
 use Rattle.scheduler.proofs.choose.or_else.Tie as tie
-use Rattle.scheduler.proofs.choose.or_else.Reads as reads
-use Rattle.scheduler.proofs.choose.or_else.Lts as lts
 
 enum-told : tie.Need-enum-told
 enum-told c = search needs

@@ -3,8 +3,6 @@ use Rattle.sound.specs.View.{threadAt-out}
 use borrow.Author.Needs.{needs}
 use Rattle.scheduler.proofs.choose.priority_at.Statement.{statement}
 use Rattle.scheduler.proofs.choose.priority_at.Tie as tie
-use Rattle.scheduler.proofs.choose.priority_at.Reads as reads
-use Rattle.scheduler.proofs.choose.priority_at.Lts as lts
 
 returns : tie.Need-returns
 returns c = rw (threadAt-out (c .before .args .t1) (c .before .args .t) (omega (arith, c .before .good)))

@@ -2,9 +2,6 @@ use Prim.Native.Nat.{_-_}
 use borrow.Author.Needs.{needs}
 use Rattle.scheduler.proofs.choose.stand_in.Statement.{statement}
 use Rattle.scheduler.proofs.choose.stand_in.Tie as tie
-use Rattle.scheduler.proofs.choose.stand_in.Reads as reads
-use Rattle.scheduler.proofs.choose.stand_in.Lts as lts
-use Rattle.scheduler.proofs.choose.stand_in_at.Reads as stand-in-at-reads
 
 enum-told : tie.Need-enum-told
 enum-told c = search needs

@@ -2,11 +2,6 @@ use Prim.Native.Nat.{_-_}
 use borrow.Author.Needs.{needs}
 use Rattle.scheduler.proofs.choose.stand_in_at.Statement.{statement}
 use Rattle.scheduler.proofs.choose.stand_in_at.Tie as tie
-use Rattle.scheduler.proofs.choose.stand_in_at.Reads as reads
-use Rattle.scheduler.proofs.choose.stand_in_at.Lts as lts
-use Rattle.scheduler.proofs.choose.priority_at.Reads as priority-at-reads
-use Rattle.scheduler.proofs.choose.or_else.Reads as or-else-reads
-use Rattle.pick.proofs.pick_other.Reads as pick-other-reads
 
 priority-at-requires : tie.Need-priority-at-requires
 priority-at-requires c κs = search needs

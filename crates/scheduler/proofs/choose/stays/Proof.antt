@@ -1,9 +1,6 @@
 use borrow.Author.Needs.{needs}
 use Rattle.scheduler.proofs.choose.stays.Statement.{statement}
 use Rattle.scheduler.proofs.choose.stays.Tie as tie
-use Rattle.scheduler.proofs.choose.stays.Reads as reads
-use Rattle.scheduler.proofs.choose.stays.Lts as lts
-use Rattle.scheduler.proofs.choose.stays_at.Reads as stays-at-reads
 
 enum-told : tie.Need-enum-told
 enum-told c = search needs

@@ -1,8 +1,6 @@
 use borrow.Author.Needs.{needs}
 use Rattle.scheduler.proofs.choose.stays_at.Statement.{statement}
 use Rattle.scheduler.proofs.choose.stays_at.Tie as tie
-use Rattle.scheduler.proofs.choose.stays_at.Reads as reads
-use Rattle.scheduler.proofs.choose.stays_at.Lts as lts
 
 enum-told : tie.Need-enum-told
 enum-told c = search needs

@@ -4,9 +4,6 @@ use borrow.Author.Tests.{not-true, not-false}
 use borrow.Author.Needs.{needs}
 use Rattle.scheduler.proofs.choose.switches.Statement.{statement}
 use Rattle.scheduler.proofs.choose.switches.Tie as tie
-use Rattle.scheduler.proofs.choose.switches.Reads as reads
-use Rattle.scheduler.proofs.choose.switches.Lts as lts
-use Rattle.scheduler.proofs.choose.is_none.Reads as is-none-reads
 
 returns : tie.Need-returns
 unfolding _and_

@@ -3,10 +3,6 @@ use Prim.Native.Nat.{_-_}
 use borrow.Author.Needs.{needs}
 use Rattle.scheduler.proofs.run.begin_run.Statement.{statement}
 use Rattle.scheduler.proofs.run.begin_run.Tie as tie
-use Rattle.scheduler.proofs.run.begin_run.Reads as reads
-use Rattle.scheduler.proofs.run.begin_run.Lts as lts
-use Rattle.scheduler.proofs.run.begun.Reads as begun-reads
-use Rattle.scheduler.proofs.run.is_placed.Reads as is-placed-reads
 
 is-placed-requires : tie.Need-is-placed-requires
 is-placed-requires c κs = search needs

@@ -1,9 +1,6 @@
 use borrow.Author.Needs.{needs}
 use Rattle.scheduler.proofs.run.begun.Statement.{statement}
 use Rattle.scheduler.proofs.run.begun.Tie as tie
-use Rattle.scheduler.proofs.run.begun.Reads as reads
-use Rattle.scheduler.proofs.run.begun.Lts as lts
-use Rattle.scheduler.proofs.run.with_run.Reads as with-run-reads
 
 with-run-requires : tie.Need-with-run-requires
 with-run-requires c κs = search needs

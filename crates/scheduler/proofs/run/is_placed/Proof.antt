@@ -2,8 +2,6 @@ use Prim.Native.Nat.{_-_}
 use borrow.Author.Needs.{needs}
 use Rattle.scheduler.proofs.run.is_placed.Statement.{statement}
 use Rattle.scheduler.proofs.run.is_placed.Tie as tie
-use Rattle.scheduler.proofs.run.is_placed.Reads as reads
-use Rattle.scheduler.proofs.run.is_placed.Lts as lts
 
 enum-told : tie.Need-enum-told
 enum-told c = search needs

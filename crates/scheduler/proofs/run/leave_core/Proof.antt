@@ -3,10 +3,6 @@ use Prim.Native.Nat.{_-_}
 use borrow.Author.Needs.{needs}
 use Rattle.scheduler.proofs.run.leave_core.Statement.{statement}
 use Rattle.scheduler.proofs.run.leave_core.Tie as tie
-use Rattle.scheduler.proofs.run.leave_core.Reads as reads
-use Rattle.scheduler.proofs.run.leave_core.Lts as lts
-use Rattle.scheduler.proofs.run.is_placed.Reads as is-placed-reads
-use Rattle.scheduler.proofs.run.leaves.Reads as leaves-reads
 
 returns : tie.Need-returns
 returns c = rw (c .if1 .taken)

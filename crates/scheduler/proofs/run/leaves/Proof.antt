@@ -2,10 +2,6 @@ use mathlib.Core.Path.{sym, _∙_}
 use borrow.Author.Needs.{needs}
 use Rattle.scheduler.proofs.run.leaves.Statement.{statement}
 use Rattle.scheduler.proofs.run.leaves.Tie as tie
-use Rattle.scheduler.proofs.run.leaves.Reads as reads
-use Rattle.scheduler.proofs.run.leaves.Lts as lts
-use Rattle.pick.proofs.is_running.Reads as is-running-reads
-use Rattle.thread.proofs.thread.with_status.Reads as with-status-reads
 
 is-running-requires : tie.Need-is-running-requires
 is-running-requires c κs = search needs

@@ -3,10 +3,6 @@ use Prim.Native.Nat.{_-_}
 use borrow.Author.Needs.{needs}
 use Rattle.scheduler.proofs.run.mark_waited.Statement.{statement}
 use Rattle.scheduler.proofs.run.mark_waited.Tie as tie
-use Rattle.scheduler.proofs.run.mark_waited.Reads as reads
-use Rattle.scheduler.proofs.run.mark_waited.Lts as lts
-use Rattle.scheduler.proofs.run.is_placed.Reads as is-placed-reads
-use Rattle.scheduler.proofs.run.marked.Reads as marked-reads
 
 is-placed-requires : tie.Need-is-placed-requires
 is-placed-requires c κs = search needs

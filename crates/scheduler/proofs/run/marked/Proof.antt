@@ -3,10 +3,6 @@ use Prim.Native.Nat.{_-_}
 use borrow.Author.Needs.{needs}
 use Rattle.scheduler.proofs.run.marked.Statement.{statement}
 use Rattle.scheduler.proofs.run.marked.Tie as tie
-use Rattle.scheduler.proofs.run.marked.Reads as reads
-use Rattle.scheduler.proofs.run.marked.Lts as lts
-use Rattle.pick.proofs.is_runnable.Reads as is-runnable-reads
-use Rattle.scheduler.proofs.run.with_run.Reads as with-run-reads
 
 is-runnable-requires : tie.Need-is-runnable-requires
 is-runnable-requires c κs = search needs

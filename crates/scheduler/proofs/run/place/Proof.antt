@@ -3,8 +3,6 @@ use native.Mathlib.Omega.{arith}
 use borrow.Author.Tests.{lt-ltb, le-ltb}
 use Rattle.scheduler.proofs.run.place.Statement.{statement}
 use Rattle.scheduler.proofs.run.place.Tie as tie
-use Rattle.scheduler.proofs.run.place.Reads as reads
-use Rattle.scheduler.proofs.run.place.Lts as lts
 
 returns : tie.Need-returns
 returns c = (rw (lt-ltb _ _ (c .if1 .taken)), c .if1 .taken)

@@ -2,9 +2,6 @@ use Prim.Native.Nat.{_-_}
 use borrow.Author.Needs.{needs}
 use Rattle.scheduler.proofs.run.place_of.Statement.{statement}
 use Rattle.scheduler.proofs.run.place_of.Tie as tie
-use Rattle.scheduler.proofs.run.place_of.Reads as reads
-use Rattle.scheduler.proofs.run.place_of.Lts as lts
-use Rattle.scheduler.proofs.run.place.Reads as place-reads
 
 enum-told : tie.Need-enum-told
 enum-told c = search needs

@@ -4,8 +4,6 @@ use Prim.Native.Nat.{_-_}
 use borrow.Author.Needs.{needs}
 use Rattle.scheduler.proofs.run.starves.Statement.{statement}
 use Rattle.scheduler.proofs.run.starves.Tie as tie
-use Rattle.scheduler.proofs.run.starves.Reads as reads
-use Rattle.scheduler.proofs.run.starves.Lts as lts
 
 returns : tie.Need-returns
 returns c = let e : c .before .before .args .tick - c .before .before .args .since .0 ≡ 0 = omega arith in rw e

@@ -3,9 +3,6 @@ use borrow.Author.Tests.{lt-ltb, le-ltb}
 use borrow.Author.Needs.{needs}
 use Rattle.scheduler.proofs.run.starves_placed.Statement.{statement}
 use Rattle.scheduler.proofs.run.starves_placed.Tie as tie
-use Rattle.scheduler.proofs.run.starves_placed.Reads as reads
-use Rattle.scheduler.proofs.run.starves_placed.Lts as lts
-use Rattle.scheduler.proofs.run.starves.Reads as starves-reads
 
 starves-requires : tie.Need-starves-requires
 starves-requires c κs = search needs

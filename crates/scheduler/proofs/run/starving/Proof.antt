@@ -2,9 +2,6 @@ use Prim.Native.Nat.{_-_}
 use borrow.Author.Needs.{needs}
 use Rattle.scheduler.proofs.run.starving.Statement.{statement}
 use Rattle.scheduler.proofs.run.starving.Tie as tie
-use Rattle.scheduler.proofs.run.starving.Reads as reads
-use Rattle.scheduler.proofs.run.starving.Lts as lts
-use Rattle.scheduler.proofs.run.starves_placed.Reads as starves-placed-reads
 
 enum-told : tie.Need-enum-told
 enum-told c = search needs

@@ -3,10 +3,6 @@ use Prim.Native.Nat.{_-_}
 use borrow.Author.Needs.{needs}
 use Rattle.scheduler.proofs.run.take_core.Statement.{statement}
 use Rattle.scheduler.proofs.run.take_core.Tie as tie
-use Rattle.scheduler.proofs.run.take_core.Reads as reads
-use Rattle.scheduler.proofs.run.take_core.Lts as lts
-use Rattle.scheduler.proofs.run.is_placed.Reads as is-placed-reads
-use Rattle.thread.proofs.thread.with_status.Reads as with-status-reads
 
 is-placed-requires : tie.Need-is-placed-requires
 is-placed-requires c κs = search needs

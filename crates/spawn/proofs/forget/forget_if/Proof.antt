@@ -1,4 +1,4 @@
-use mathlib.Core.Path.{_≡_, refl, ap, _∙_}
+use mathlib.Core.Path.{refl, ap, _∙_}
 use borrow.Author.Tests.{not-true, not-false}
 use Rattle.types.specs.declared.kernel.Kernel.{Kernel}
 use Rattle.object.specs.Waiters.{dropThread}

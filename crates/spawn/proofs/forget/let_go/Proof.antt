@@ -1,7 +1,5 @@
-use mathlib.Core.Path.{_≡_, sym, ap, subst, _∙_}
+use mathlib.Core.Path.{sym, ap, subst, _∙_}
 use Rattle.block.specs.Block.{decBlock}
-use mathlib.Core.List.{List}
-use Prim.Native.Nat.{ℕ}
 use Rattle.release.specs.Encoded.{Encoded}
 use Rattle.spawn.proofs.Forgets.{none-kept, unkept-in, kept-gone}
 use borrow.Author.Needs.{needs}

@@ -4,8 +4,6 @@ use Rattle.tally.specs.Place.{slotIndex}
 use borrow.Author.Needs.{needs}
 use Rattle.tally.proofs.place.slot_index.Statement.{statement}
 use Rattle.tally.proofs.place.slot_index.Tie as tie
-use Rattle.tally.proofs.place.slot_index.Reads as reads
-use Rattle.tally.proofs.place.slot_index.Lts as lts
 
 returns : tie.Need-returns
 unfolding slotIndex

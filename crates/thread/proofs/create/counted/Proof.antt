@@ -3,8 +3,6 @@ use Rattle.laws.specs.Logic.{_or_}
 use borrow.Author.Needs.{needs}
 use Rattle.thread.proofs.create.counted.Statement.{statement}
 use Rattle.thread.proofs.create.counted.Tie as tie
-use Rattle.thread.proofs.create.counted.Reads as reads
-use Rattle.thread.proofs.create.counted.Lts as lts
 
 returns : tie.Need-returns
 unfolding _or_

@@ -2,8 +2,6 @@ use borrow.Author.Tests.{lt-ltb, le-ltb}
 use borrow.Author.Needs.{needs}
 use Rattle.thread.proofs.create.given_out.Statement.{statement}
 use Rattle.thread.proofs.create.given_out.Tie as tie
-use Rattle.thread.proofs.create.given_out.Reads as reads
-use Rattle.thread.proofs.create.given_out.Lts as lts
 
 returns : tie.Need-returns
 returns c = rw (lt-ltb _ _ (c .if1 .taken))

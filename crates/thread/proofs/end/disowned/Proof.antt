@@ -1,9 +1,6 @@
 use borrow.Author.Needs.{needs}
 use Rattle.thread.proofs.end.disowned.Statement.{statement}
 use Rattle.thread.proofs.end.disowned.Tie as tie
-use Rattle.thread.proofs.end.disowned.Reads as reads
-use Rattle.thread.proofs.end.disowned.Lts as lts
-use Rattle.thread.proofs.end.disowned_mutex.Reads as disowned-mutex-reads
 
 enum-known-o : tie.Need-enum-known-o
 enum-known-o c = search needs

@@ -1,9 +1,6 @@
 use borrow.Author.Needs.{needs}
 use Rattle.thread.proofs.end.disowned_mutex.Statement.{statement}
 use Rattle.thread.proofs.end.disowned_mutex.Tie as tie
-use Rattle.thread.proofs.end.disowned_mutex.Reads as reads
-use Rattle.thread.proofs.end.disowned_mutex.Lts as lts
-use Rattle.sound.proofs.is_current.Reads as is-current-reads
 
 is-current-requires : tie.Need-is-current-requires
 is-current-requires c κs = search needs

@@ -1,9 +1,6 @@
 use borrow.Author.Needs.{needs}
 use Rattle.thread.proofs.end.disowned_slot.Statement.{statement}
 use Rattle.thread.proofs.end.disowned_slot.Tie as tie
-use Rattle.thread.proofs.end.disowned_slot.Reads as reads
-use Rattle.thread.proofs.end.disowned_slot.Lts as lts
-use Rattle.thread.proofs.end.disowned.Reads as disowned-reads
 
 disowned-requires : tie.Need-disowned-requires
 disowned-requires c κs = search needs

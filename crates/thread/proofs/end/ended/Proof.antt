@@ -1,11 +1,6 @@
 use borrow.Author.Needs.{needs}
 use Rattle.thread.proofs.end.ended.Statement.{statement}
 use Rattle.thread.proofs.end.ended.Tie as tie
-use Rattle.thread.proofs.end.ended.Reads as reads
-use Rattle.thread.proofs.end.ended.Lts as lts
-use Rattle.thread.proofs.thread.without_wait.Reads as without-wait-reads
-use Rattle.thread.proofs.thread.with_result.Reads as with-result-reads
-use Rattle.thread.proofs.thread.with_status.Reads as with-status-reads
 
 -- src/end.rt:138:29
 without-wait-requires : tie.Need-without-wait-requires

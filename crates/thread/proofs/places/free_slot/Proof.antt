@@ -8,8 +8,6 @@ use Rattle.thread.proofs.Steps.{free-step, free-end}
 use borrow.Author.Needs.{needs}
 use Rattle.thread.proofs.places.free_slot.Statement.{statement}
 use Rattle.thread.proofs.places.free_slot.Tie as tie
-use Rattle.thread.proofs.places.free_slot.Reads as reads
-use Rattle.thread.proofs.places.free_slot.Lts as lts
 
 abbrev Inv-loop : tie.InvT-loop
 Inv-loop n m i₀ i = (i ≤ n) × (freeMarked m (n - i) i ≡ freeMarked m n 0)

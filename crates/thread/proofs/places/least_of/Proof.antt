@@ -1,8 +1,6 @@
 use borrow.Author.Tests.{lt-ltb, le-ltb}
 use Rattle.thread.proofs.places.least_of.Statement.{statement}
 use Rattle.thread.proofs.places.least_of.Tie as tie
-use Rattle.thread.proofs.places.least_of.Reads as reads
-use Rattle.thread.proofs.places.least_of.Lts as lts
 
 returns : tie.Need-returns
 returns c = rw (lt-ltb _ _ (c .if1 .taken))

@@ -1,9 +1,6 @@
 use borrow.Author.Needs.{needs}
 use Rattle.thread.proofs.thread.new_context.Statement.{statement}
 use Rattle.thread.proofs.thread.new_context.Tie as tie
-use Rattle.thread.proofs.thread.new_context.Reads as reads
-use Rattle.thread.proofs.thread.new_context.Lts as lts
-use Rattle.thread.proofs.thread.status_word.Reads as status-word-reads
 
 array-write-regs : tie.Need-array-write-regs
 array-write-regs c = search needs

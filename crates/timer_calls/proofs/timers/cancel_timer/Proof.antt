@@ -16,7 +16,7 @@ same-length : tie.Need-same-length
 same-length c = search needs
 
 returns : tie.Need-returns
-returns c =     let a = c .before .before .before .before .before .before .before .before .args in
+returns c = let a = c .before .before .before .before .before .before .before .before .args in
     let k = decBlock (a .block .now) in
     refused-call (a .block .now) (a .r .r0) _ (c .before .before .before .before .before .open-caught .result) (c .before .before .before .before .before .open-caught .ensures .0) (cancelTimer k (a .r) (a .tick)) (cancelTimer-finding k (a .r) (a .tick)) (c .before .if1 .taken) _ (c .refused .ensures)
 
@@ -30,7 +30,7 @@ same-length-2 : tie.Need-same-length-2
 same-length-2 c = search needs
 
 returns-2 : tie.Need-returns-2
-returns-2 c =     let a = c .before .before .before .before .before .before .before .before .before .before .before .before .before .args in
+returns-2 c = let a = c .before .before .before .before .before .before .before .before .before .before .before .before .before .args in
     let k = decBlock (a .block .now) in
     let p = c .before .before .before .before .before .before .before .before .before .before .open-caught .ensures in
     let u = cancel-is k (a .r) (a .tick) _ (p .1 .1 (c .before .before .before .before .before .before .if1 .left)) (c .before .before .before .before .before .before .before .before .before .before .open-caught .result .object .0) (p .0 .object (c .before .before .before .before .before .before .if1 .left)) in

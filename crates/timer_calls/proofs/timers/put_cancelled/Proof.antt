@@ -17,7 +17,7 @@ same-length : tie.Need-same-length
 same-length c = search needs
 
 returns : tie.Need-returns
-returns c =     let a = c .before .before .before .before .before .before .before .before .args in
+returns c = let a = c .before .before .before .before .before .before .before .before .args in
     rw (c .before .before .content .ensures) (put-changed (a .block .now) (c .before .before .before .before .before .before .before .before .pre .1) (a .o .0) (c .before .before .before .before .before .slot-at .result) (c .before .before .before .before .before .slot-at .ensures) cancelled (c .before .before .before .before .cancelled .result) (c .before .before .before .before .cancelled .ensures))
 
 pub put-cancelled-spec : {M : Type 1} → statement M

@@ -17,7 +17,7 @@ same-length : tie.Need-same-length
 same-length c = search needs
 
 returns : tie.Need-returns
-returns c =     let a = c .before .before .before .before .before .before .before .before .args in
+returns c = let a = c .before .before .before .before .before .before .before .before .args in
     rw (c .before .before .content .ensures) (put-changed (a .block .now) (c .before .before .before .before .before .before .before .before .pre .1) (a .o .0) (c .before .before .before .before .before .slot-at .result) (c .before .before .before .before .before .slot-at .ensures) lostObject (c .before .before .before .before .lost-object .result) (c .before .before .before .before .lost-object .ensures))
 
 pub put-cleared-spec : {M : Type 1} → statement M

@@ -2,11 +2,6 @@ use Prim.Native.Nat.{_-_}
 use borrow.Author.Needs.{needs}
 use Rattle.tries.proofs.fate.fate_as.Statement.{statement}
 use Rattle.tries.proofs.fate.fate_as.Tie as tie
-use Rattle.tries.proofs.fate.fate_as.Reads as reads
-use Rattle.tries.proofs.fate.fate_as.Lts as lts
-use Rattle.tries.proofs.fate.fate_sync.Reads as fate-sync-reads
-use Rattle.tries.proofs.fate.late_or.Reads as late-or-reads
-use Rattle.tries.proofs.fate.slept_or.Reads as slept-or-reads
 
 enum-told : tie.Need-enum-told
 enum-told c = search needs

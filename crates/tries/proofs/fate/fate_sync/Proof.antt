@@ -3,11 +3,6 @@ use Rattle.tries.specs.Tries.{sync-is}
 use borrow.Author.Needs.{needs}
 use Rattle.tries.proofs.fate.fate_sync.Statement.{statement}
 use Rattle.tries.proofs.fate.fate_sync.Tie as tie
-use Rattle.tries.proofs.fate.fate_sync.Reads as reads
-use Rattle.tries.proofs.fate.fate_sync.Lts as lts
-use Rattle.tries.proofs.fate.given_or.Reads as given-or-reads
-use Rattle.tries.proofs.fate.late_or.Reads as late-or-reads
-use Rattle.tries.proofs.fate.or_fate.Reads as or-fate-reads
 
 given-or-requires : tie.Need-given-or-requires
 given-or-requires c κs = search needs

@@ -2,8 +2,6 @@ use Prim.Native.Nat.{_-_}
 use borrow.Author.Needs.{needs}
 use Rattle.tries.proofs.fate.or_fate.Statement.{statement}
 use Rattle.tries.proofs.fate.or_fate.Tie as tie
-use Rattle.tries.proofs.fate.or_fate.Reads as reads
-use Rattle.tries.proofs.fate.or_fate.Lts as lts
 
 enum-told : tie.Need-enum-told
 enum-told c = search needs

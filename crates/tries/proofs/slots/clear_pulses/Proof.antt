@@ -1,13 +1,14 @@
 use mathlib.Core.Path.{_≡_, ap, subst, _∙_}
 use mathlib.Core.Logic.{⊎-elim}
-use Prim.Native.Nat.{ℕ, _+_, _-_, _≤_, _<_}
+use Prim.Native.Nat.{ℕ, _-_, _≤_, _<_}
 use native.Mathlib.Omega.{arith}
 use lib.ListN.{length}
 use Rattle.types.specs.declared.object.Slot.{Slot}
 use Rattle.rows.specs.Holds.{holds}
 use Rattle.rows.specs.Slots.{SlotsTo, slots-none, slot-before, slots-next, slots-more}
 use Rattle.pass.specs.Signal.{unpulsedSlot}
-use Rattle.tries.proofs.Fired.{unpulsed-same, cleared-all}
+use Rattle.signal.proofs.Pulses.{unpulsed-same}
+use Rattle.tries.proofs.Fired.{cleared-all}
 use borrow.Author.Needs.{needs}
 use Rattle.tries.proofs.slots.clear_pulses.Statement.{statement}
 use Rattle.tries.proofs.slots.clear_pulses.Tie as tie

@@ -1,8 +1,6 @@
 use borrow.Author.Tests.{ne-eqb}
 use Rattle.types.proofs.sync.reset_from_raw.Statement.{statement}
 use Rattle.types.proofs.sync.reset_from_raw.Tie as tie
-use Rattle.types.proofs.sync.reset_from_raw.Reads as reads
-use Rattle.types.proofs.sync.reset_from_raw.Lts as lts
 
 returns : tie.Need-returns
 returns c = rw (c .match .keys1)

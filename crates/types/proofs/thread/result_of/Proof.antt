@@ -1,8 +1,6 @@
 use borrow.Author.Tests.{ne-eqb}
 use Rattle.types.proofs.thread.result_of.Statement.{statement}
 use Rattle.types.proofs.thread.result_of.Tie as tie
-use Rattle.types.proofs.thread.result_of.Reads as reads
-use Rattle.types.proofs.thread.result_of.Lts as lts
 
 returns : tie.Need-returns
 returns c = rw (c .match .keys1)

@@ -1,8 +1,6 @@
 use borrow.Author.Tests.{ne-eqb}
 use Rattle.types.proofs.thread.thread_option.Statement.{statement}
 use Rattle.types.proofs.thread.thread_option.Tie as tie
-use Rattle.types.proofs.thread.thread_option.Reads as reads
-use Rattle.types.proofs.thread.thread_option.Lts as lts
 
 returns : tie.Need-returns
 returns c = rw (c .match .keys1)

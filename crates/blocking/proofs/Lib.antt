@@ -1,3 +1,0 @@
--- The laws that the proofs of `blocking` cite.
-pub mod Laws
-pub mod Opens

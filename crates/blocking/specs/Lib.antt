@@ -1,2 +1,0 @@
--- The guest calls that wait on objects, as their code looks at them.
-pub mod Waits

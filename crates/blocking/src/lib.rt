@@ -1,3 +1,0 @@
-// The guest calls that wait on objects (svc.rs).
-pub mod wait_n;
-pub mod waits;
