@@ -65,7 +65,7 @@ pub record AllFound (k : Kernel) (s : ObjectStore) (os : List ℕ) : Type 0 wher
   -- each has one, unless a handle was unknown
   pub known : contains os 0 ≡ false → Known s (names (k .handles) (k .threads)) os
 
-none-zero : (o : ℕ) (os : List ℕ) → contains (o ∷ os) 0 ≡ false → (eqb o 0 ≡ false) × (contains os 0 ≡ false)
+pub none-zero : (o : ℕ) (os : List ℕ) → contains (o ∷ os) 0 ≡ false → (eqb o 0 ≡ false) × (contains os 0 ≡ false)
 unfolding contains
 none-zero o os e = or-false _ _ e
 

@@ -23,7 +23,7 @@ use Rattle.svc.specs.Timers.{caughtUp}
 use Rattle.svc.specs.Waits.{resolveAll, resolveStore}
 use Rattle.svc.proofs.Handles.{plain}
 use Rattle.calling.specs.Resolves.{resolved-found, resolved-parts, resolved-named}
-use Rattle.parking.specs.Lists.{store-full}
+use Rattle.parking.specs.Lists.{store-full, none-zero}
 use Rattle.objects.proofs.Pseudo.{pseudo-object}
 use Rattle.wait_calls.specs.Opens.{storeOf, objectsOf}
 use Rattle.wait_calls.specs.Near.{near, anyNear}
@@ -69,10 +69,6 @@ module _ (k : Kernel) (p : Parts k) where
     own-near : (t : Bool) → pseudo h ≡ t → near (objectAt (k .objects) (openObject k h)) ≡ false → near (objectAt (resolved k h .store) (resolved k h .object .0)) ≡ false
     own-near true q n = pseudo-object (λ x. near x ≡ false) refl near-kept k h q (resolved-parts k p h e .ob .kept)
     own-near false q n = ap (λ (x : Resolved). near (objectAt (x .store) (x .object .0))) (plain (k .«current_thread») (k .handles) (k .objects) h q) ∙ rw q at n
-
-none-zero : (o : ℕ) (os : List ℕ) → contains (o ∷ os) 0 ≡ false → (eqb o 0 ≡ false) × (contains os 0 ≡ false)
-unfolding contains
-none-zero o os e = or-false _ _ e
 
 abbrev Fine : Kernel → ObjectStore → List ℕ → Type 0
 Fine k s hs = All (λ h. near (objectAt s (openObject k h)) ≡ false) hs
