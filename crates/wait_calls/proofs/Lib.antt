@@ -7,7 +7,6 @@ pub mod Begins
 pub mod Now
 pub mod Ways
 pub mod Takes
-pub mod Taking
 pub mod Looked
 pub mod Opens
 pub mod Makes

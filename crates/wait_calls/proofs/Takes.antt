@@ -1,57 +1,85 @@
--- What a wait that succeeds takes of an object, in the block. Assumes nothing.
+-- What is found of objects that a wait takes, and the block with them taken. Assumes nothing.
 use mathlib.Core.Path.{_≡_, sym, ap, _∙_}
 use mathlib.Core.Bool.{Bool, true, false}
 use mathlib.Core.List.{List}
 use Prim.Native.Nat.{ℕ}
 use native.Mathlib.Omega.{arith}
 use Rattle.laws.specs.Logic.{_or_}
-use Rattle.types.specs.declared.object.Slot.{Slot}
+use Rattle.types.specs.declared.thread.ThreadOption.the-variants.{SomeThread}
+use Rattle.types.specs.declared.object.ObjectStore.{ObjectStore}
 use Rattle.types.specs.declared.kernel.Kernel.{Kernel}
 use Rattle.block.specs.Block.{encBlock, decBlock}
-use Rattle.sound.specs.View.{slotAt, objectAt}
-use Rattle.sound.specs.Question.{sound?}
-use Rattle.object.specs.Slots.{withObject, content}
-use Rattle.pass.specs.Signal.{acquired, acquireOver, withOverflow, acquire}
+use Rattle.sound.specs.View.{objectAt}
+use Rattle.sound.specs.Objects.{Live}
+use Rattle.sound.specs.Question.{sound?, t-block}
+use Rattle.soundness.specs.Whole.{sound-parts}
+use Rattle.thread.specs.Threads.{withThreads}
+use Rattle.pass.specs.Signal.{acquireOver, acquire, acquires}
+use Rattle.passing.specs.Switch.{current-live}
+use Rattle.parking.specs.Begins.{acquire-full, acquires-full}
 use Rattle.svc.specs.Call.{done, withObjects}
 use Rattle.lent.specs.Operations.{finding, outOfHandles?}
 use Rattle.outcome.specs.Outcome.{left, left-0, left-found}
 use Rattle.outcome.specs.Findings.{foundOf, parts-finding}
-use Rattle.rows.specs.Rows.{slotPut}
-use Rattle.timer_calls.proofs.Found.{down}
 use Rattle.rows.specs.Holds.{holds}
-use Rattle.objects.proofs.Changed.{put-content}
+use Rattle.timer_calls.proofs.Found.{down}
 
-module _ (b : List ℕ) (s : sound? b ≡ true) (n : outOfHandles? (decBlock b) ≡ false) (o w : ℕ) (x : Slot) (e : x ≡ slotAt (decBlock b .objects .slots) o) where
-  abbrev k : Kernel
-  k = decBlock b
+-- the current thread lives
+pub taker-lives : (b : List ℕ) → sound? b ≡ true → (w : ℕ) → decBlock b .«current_thread» ≡ SomeThread w → Live (decBlock b .threads) w
+taker-lives b s w c = current-live (decBlock b) (sound-parts (decBlock b) (t-block b .yes s .state)) w c
 
+-- the objects t are left
+module _ (b : List ℕ) (n : outOfHandles? (decBlock b) ≡ false) (t : ObjectStore) (full : t .full ≡ false) where
   abbrev after : Kernel
-  after = withObjects k (acquire (k .objects) o w)
+  after = withObjects (decBlock b) t
 
-  -- the sum does not fit
-  over-is : acquire (k .objects) o w .overflow ≡ false or acquireOver (x .object)
-  unfolding acquire content
-  over-is = (λ i. down b .1 i or acquireOver (sym e i .object))
-
-  full-is : acquire (k .objects) o w .full ≡ false
-  unfolding acquire content
-  full-is = down b .0
-
-  pub taken-over : false or acquireOver (x .object) ≡ true → (8 ≡ finding after) × (b ≡ left (done after) b)
+  -- a count does not fit
+  found-over : t .overflow ≡ true → finding after ≡ 8
   unfolding _or_
-  taken-over v =
-      let f : finding after ≡ 8 = parts-finding b (k .threads) (acquire (k .objects) o w) ∙ (λ i. foundOf (full-is i) ((over-is ∙ v) i or outOfHandles? k)) in
-      (sym f, sym (left-found (done after) b (λ z. omega (arith, f, z))))
+  found-over v = parts-finding b (decBlock b .threads) t ∙ (λ i. foundOf (full i) (v i or outOfHandles? (decBlock b)))
 
-  -- it fits
-  same-state : false or acquireOver (x .object) ≡ false → withObjects k (content (k .objects) o (acquired (x .object) w)) ≡ after
-  unfolding acquire content
-  same-state v =
-      ap (λ (z : Slot). withObjects k (content (k .objects) o (acquired (z .object) w))) e
-      ∙ ap (λ (z : Bool). withObjects k (withOverflow (content (k .objects) o (acquired (objectAt (k .objects) o) w)) z)) (down b .1 ∙ sym (over-is ∙ v))
-
-  pub taken-fits : (y : Slot) → y ≡ withObject x (acquired (x .object) w) → false or acquireOver (x .object) ≡ false → (0 ≡ finding after) × (slotPut b o y ≡ left (done after) b)
+  found-none : t .overflow ≡ false → finding after ≡ 0
   unfolding _or_
-  taken-fits y q v =
-      let f : finding after ≡ 0 = parts-finding b (k .threads) (acquire (k .objects) o w) ∙ (λ i. foundOf (full-is i) ((over-is ∙ v) i or n i)) in
-      (sym f, ap (slotPut b o) q ∙ put-content (holds b s) o x (acquired (x .object) w) e .same ∙ ap encBlock (same-state v) ∙ sym (left-0 (done after) b f))
+  found-none v = parts-finding b (decBlock b .threads) t ∙ (λ i. foundOf (full i) (v i or n i))
+
+  holds-after : (e : List ℕ) → sound? e ≡ true → decBlock e ≡ withThreads (decBlock b) (decBlock b .threads) t → e ≡ encBlock after
+  holds-after e s d = holds e s .same ∙ ap encBlock d
+
+module _ (b : List ℕ) (n : outOfHandles? (decBlock b) ≡ false) (w : ℕ) where
+  module _ (o : ℕ) where
+    abbrev one : ObjectStore
+    one = acquire (decBlock b .objects) o w
+
+    one-full : one .full ≡ false
+    one-full = acquire-full (decBlock b .objects) o w ∙ down b .0
+
+    over-is : one .overflow ≡ false or acquireOver (objectAt (decBlock b .objects) o)
+    unfolding acquire
+    over-is = ap (λ (z : Bool). z or acquireOver (objectAt (decBlock b .objects) o)) (down b .1)
+
+    pub taken-over : acquireOver (objectAt (decBlock b .objects) o) ≡ true → (e : List ℕ) → e ≡ b → (8 ≡ finding (withObjects (decBlock b) one)) × (e ≡ left (done (withObjects (decBlock b) one)) b)
+    unfolding _or_
+    taken-over v e p =
+        let f = found-over b n one one-full (over-is ∙ v) in
+        (sym f, p ∙ sym (left-found (done (withObjects (decBlock b) one)) b (λ z. omega (arith, f, z))))
+
+    pub taken-fits : acquireOver (objectAt (decBlock b .objects) o) ≡ false → (e : List ℕ) → sound? e ≡ true → decBlock e ≡ withThreads (decBlock b) (decBlock b .threads) one
+        → (0 ≡ finding (withObjects (decBlock b) one)) × (e ≡ left (done (withObjects (decBlock b) one)) b)
+    unfolding _or_
+    taken-fits v e s d =
+        let f = found-none b n one one-full (over-is ∙ v) in
+        (sym f, holds-after b n one one-full e s d ∙ sym (left-0 (done (withObjects (decBlock b) one)) b f))
+
+  module _ (os : List ℕ) where
+    abbrev all : ObjectStore
+    all = acquires (decBlock b .objects) os w
+
+    all-full : all .full ≡ false
+    all-full = acquires-full os (decBlock b .objects) w ∙ down b .0
+
+    pub list-over : all .overflow ≡ true → 8 ≡ finding (withObjects (decBlock b) all)
+    list-over v = sym (found-over b n all all-full v)
+
+    pub list-fits : all .overflow ≡ false → (e : List ℕ) → sound? e ≡ true → decBlock e ≡ withThreads (decBlock b) (decBlock b .threads) all
+        → (0 ≡ finding (withObjects (decBlock b) all)) × (e ≡ encBlock (withObjects (decBlock b) all))
+    list-fits v e s d = (sym (found-none b n all all-full v), holds-after b n all all-full e s d)

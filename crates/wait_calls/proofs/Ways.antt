@@ -38,7 +38,7 @@ use Rattle.wait_calls.specs.Over.{overNow}
 use Rattle.wait_calls.proofs.Now.{over-caught, over-pseudo, wait1-finding}
 
 -- nothing is found of a block as it is
-pub same-found : (b : List ℕ) → outOfHandles? (decBlock b) ≡ false → finding (decBlock b) ≡ 0
+same-found : (b : List ℕ) → outOfHandles? (decBlock b) ≡ false → finding (decBlock b) ≡ 0
 same-found b n = same-finding b ∙ ap (foundOf false) n
 
 -- with nothing found, what a call leaves does not hang on the block before

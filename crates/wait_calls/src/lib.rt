@@ -5,4 +5,4 @@ pub mod many;
 pub mod near;
 pub mod one;
 pub mod room;
-pub mod take;
+pub mod taken;

@@ -3,7 +3,7 @@ use crate::begin_wait;
 use crate::handles;
 use crate::near;
 use crate::room;
-use crate::take;
+use crate::taken;
 use outcome::Outcome;
 use pass::IndexOption;
 use rows::read;
@@ -53,7 +53,7 @@ fn take_all(block: &mut [u8], c: u32, l: [ObjectId; 8], n: u32, i: u32) -> Outco
     ensures { λ r. ⌜ r ≡ outcome (gives (withObjects (decBlock (now (block .entry))) (sig.acquires (decBlock (now (block .entry)) .objects) (take n (ids l)) c)) i) ⌝ }
     ensures { λ _. ⌜ ((finding (withObjects (decBlock (now (block .entry))) (sig.acquires (decBlock (now (block .entry)) .objects) (take n (ids l)) c)) ≡ 0) → now (block .exit) ≡ left (gives (withObjects (decBlock (now (block .entry))) (sig.acquires (decBlock (now (block .entry)) .objects) (take n (ids l)) c)) i) (now (block .entry))) ⌝ }
 {
-    let found = take::take_list(block, l, n, c);
+    let found = taken::take_list(block, l, n, c);
     if found != 0 {
         return outcome::refused(found);
     }
@@ -73,7 +73,7 @@ fn take_at(block: &mut [u8], c: u32, l: [ObjectId; 8], n: u32, all: bool, i: u32
         return take_all(block, c, l, n, i);
     }
     let o = object_at(l, n, i);
-    let found = take::take(block, o, c);
+    let found = taken::take(block, o, c);
     if found != 0 {
         return outcome::refused(found);
     }

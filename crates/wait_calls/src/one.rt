@@ -1,6 +1,6 @@
 // `wait_synchronization1` (svc.rs).
 use crate::begin_wait;
-use crate::take;
+use crate::taken;
 use outcome::Outcome;
 use rows::read;
 use svc::Registers;
@@ -31,7 +31,7 @@ fn wait_one(block: &mut [u8], c: u32, o: ObjectId, nanos: u64, tick: u64) -> Out
     let x = read::slot_at(block, o.0);
     let v = x.object;
     if wait::signaled(block, v, c) {
-        let found = take::take(block, o, c);
+        let found = taken::take(block, o, c);
         if found != 0 {
             return outcome::refused(found);
         }
@@ -104,7 +104,7 @@ pub fn wait_synchronization1(block: &mut [u8], r: Registers, tick: u64) -> Outco
         return wait_pseudo(block, r, tick);
     }
     let o = read::object_of(block, r.r0);
-    if take::over_now(block, o) {
+    if taken::over_now(block, o) {
         return outcome::refused(8);
     }
     let fires = due::timer_due(block, tick);

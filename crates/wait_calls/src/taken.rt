@@ -1,6 +1,5 @@
 // What a wait that succeeds takes of an object.
 use rows::read;
-use rows::write;
 use types::thread::ThreadOption;
 use units::ObjectId;
 ghost use mathlib.Core.Path.{_≡_};
@@ -37,15 +36,13 @@ pub fn take(block: &mut [u8], o: ObjectId, w: u32) -> u32
     requires { ⌜ length (now block) ≡ 16384 ⌝ }
     requires { ⌜ sound? (now block) ≡ true ⌝ }
     requires { ⌜ outOfHandles? (decBlock (now block)) ≡ false ⌝ }
+    requires { ⌜ decBlock (now block) .«current_thread» ≡ ThreadOption.SomeThread w ⌝ }
     ensures { λ n. ⌜ n ≡ finding (withObjects (decBlock (now (block .entry))) (acquire (decBlock (now (block .entry)) .objects) (o .0) w)) ⌝ }
     ensures { λ _. ⌜ now (block .exit) ≡ left (done (withObjects (decBlock (now (block .entry))) (acquire (decBlock (now (block .entry)) .objects) (o .0) w))) (now (block .entry)) ⌝ }
 {
-    let x = read::slot_at(block, o.0);
-    if acquire::over_after(false, x) {
+    if take::take(block, o, w) {
         return 8;
     }
-    let y = acquire::acquired_slot(x, w);
-    write::put_slot(block, o.0, y);
     0
 }
 
@@ -59,16 +56,8 @@ pub fn take_list(block: &mut [u8], l: [ObjectId; 8], n: u32, w: u32) -> u32
     ensures { λ f. ⌜ f ≡ finding (withObjects (decBlock (now (block .entry))) (acquires (decBlock (now (block .entry)) .objects) (take n (ids l)) w)) ⌝ }
     ensures { λ f. ⌜ ((f ≡ 0) → now (block .exit) ≡ encBlock (withObjects (decBlock (now (block .entry))) (acquires (decBlock (now (block .entry)) .objects) (take n (ids l)) w))) ⌝ }
 {
-    let mut i: usize = 0;
-    while i < 8 {
-        if n <= i as u32 {
-            return 0;
-        }
-        let found = take(block, l[i], w);
-        if found != 0 {
-            return found;
-        }
-        i += 1;
+    if take::take_list(block, l, n, w) {
+        return 8;
     }
     0
 }

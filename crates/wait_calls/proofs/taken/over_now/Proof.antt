@@ -7,8 +7,8 @@ use Rattle.block.specs.Block.{decBlock}
 use Rattle.pass.specs.Signal.{isSignaled, acquireOver}
 use Rattle.wait_calls.proofs.Now.{over-none, over-nobody, over-some}
 use borrow.Author.Needs.{needs}
-use Rattle.wait_calls.proofs.take.over_now.Statement.{statement}
-use Rattle.wait_calls.proofs.take.over_now.Tie as tie
+use Rattle.wait_calls.proofs.taken.over_now.Statement.{statement}
+use Rattle.wait_calls.proofs.taken.over_now.Tie as tie
 
 slot-at-requires : tie.Need-slot-at-requires
 slot-at-requires c κs = search needs
