@@ -52,7 +52,7 @@ pub record Clear (k : Kernel) : Type 0 where
 
 -- ---- answers: 0 and those from 16 on are accepted
 abbrev pub Accepted : ℕ → Type 0
-Accepted n = (n ≡ 0) ⊎ (16 ≤ n)
+Accepted n = (n ≡ 0) ⊎ ((16 ≤ n) × (n ≤ 18))
 
 -- ---- table and store anew
 module _ (k : Kernel) (p : Parts k) (t : HandleTable) (s : ObjectStore) where
@@ -121,7 +121,7 @@ pub record Keeps (k : Kernel) (v : Served) : Type 0 where
   pub accepted : Accepted (v .answer)
 
 pub refused : (k : Kernel) → Keeps k (answers invalidHandle k)
-refused k = record { parts = λ p c. p; full = refl; overflow = refl; accepted = inr (omega arith) }
+refused k = record { parts = λ p c. p; full = refl; overflow = refl; accepted = inr (omega arith, omega arith) }
 
 -- one object anew, alike
 module _ (k : Kernel) (p : Parts k) (o : ℕ) (x y : KObject) (e : objectAt (k .objects) o ≡ x) where

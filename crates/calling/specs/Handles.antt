@@ -106,4 +106,4 @@ duplicateHandle-sound k r s c = parts-sound _ (duplicate-as k (sound-parts k s) 
 
 pub duplicateHandle-answers : (k : Kernel) (r : Registers) → Accepted (duplicateHandle k r .answer)
 unfolding duplicateHandle
-duplicateHandle-answers k r = pick-both (λ (v : Served). Accepted (v .answer)) (eqb (resolved k (r .r1) .object .0) 0) _ _ (inr (omega arith)) (inl refl)
+duplicateHandle-answers k r = pick-both (λ (v : Served). Accepted (v .answer)) (eqb (resolved k (r .r1) .object .0) 0) _ _ (inr (omega arith, omega arith)) (inl refl)

@@ -168,7 +168,7 @@ unfolding setThreadPriority
 setThreadPriority-sound k r s = priority-as (resolveThread k (r .r0)) k (r .r1) (thread-in k (r .r0) s) s
 
 priority-accepted : (o : ThreadOption) (k : Kernel) (p : ℕ) → Accepted (setPriorityAs o k p .answer)
-priority-accepted NoThread k p = inr (omega arith)
+priority-accepted NoThread k p = inr (omega arith, omega arith)
 priority-accepted (SomeThread t) k p = inl refl
 
 pub setThreadPriority-answers : (k : Kernel) (r : Registers) → Accepted (setThreadPriority k r .answer)

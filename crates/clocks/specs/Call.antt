@@ -131,8 +131,8 @@ module _ (number : ℕ) (k : Kernel) (r : Registers) (words : List ℕ) (tick : 
     if-fires n v rest q f next = pick-if Does (eqb number n) v rest (λ e. fires (ap fires? (eqb-true number n e) ∙ q) v (f e)) next
 
     -- a call that sets or cancels names another object
-    other : eqb number 0x1B or eqb number 0x1C ≡ true → eqb (target k r tick) o ≡ false
-    other e = sym (and-yes (eqb number 0x1B or eqb number 0x1C) (eqb (target k r tick) o) e) ∙ calm
+    other : eqb number 0x1B or eqb number 0x1C ≡ true → eqb (target k r) o ≡ false
+    other e = sym (and-yes (eqb number 0x1B or eqb number 0x1C) (eqb (target k r) o) e) ∙ calm
 
     none : eqb number 0x1B ≡ false → eqb number 0x1C ≡ false → eqb number 0x1D ≡ false → eqb number 0x24 ≡ false → eqb number 0x25 ≡ false → fires? number ≡ false
     none a b c d e =

@@ -7,7 +7,7 @@ use Prim.Native.Nat.{ℕ, zero, suc, _+_, _≤_, _<_}
 use native.Mathlib.Omega.{arith}
 use lib.Dec.{eqb}
 use lib.ListN.{length}
-use borrow.Author.Tests.{eqb-true, eqb-false}
+use borrow.Author.Tests.{eqb-true}
 use Rattle.laws.specs.Logic.{lt-cases}
 use Rattle.units.specs.Ticks.{nanosToTicks}
 use Rattle.types.specs.declared.thread.TickOption.the-variants.{NoTick}
@@ -30,7 +30,7 @@ use Rattle.demand.specs.Words.{target, isTimer, cutOff}
 use Rattle.timing.specs.Clock.{Clock, clockAt, content-clock, content-other, content-own}
 use Rattle.timing.specs.Fires.{firedClock, lost-object}
 use Rattle.timing.specs.Keeps.{FirstFree}
-use Rattle.clocks.specs.Resolves.{Used, parts-free, createObject-clock, caught-resolved}
+use Rattle.clocks.specs.Resolves.{Used, parts-free, createObject-clock, named-is, named-not, caught-resolved}
 
 -- ---- `set_timer` on another object
 set-other : (x : KObject) (k : Kernel) (r a b tick o : ℕ) → o ≢ r → clockAt (setTimerAs x k r a b tick .kernel .objects) o ≡ clockAt (k .objects) o
@@ -50,21 +50,21 @@ module _ (k : Kernel) (f : FirstFree (k .objects)) (o : ℕ) (u : Used (k .objec
   createTimer-clock = createObject-clock k f o u (Timer (record { «reset_type» = resetFromRaw (r .r1); signaled = false; «fire_at» = NoTick; interval = record { 0 = 0 } }))
 
   module _ (tick : ℕ) where
-    pub setTimer-clock : eqb (target k r tick) o ≡ false → clockAt (setTimer k r tick .kernel .objects) o ≡ firedClock tick (clockAt (k .objects) o)
+    pub setTimer-clock : eqb (target k r) o ≡ false → clockAt (setTimer k r tick .kernel .objects) o ≡ firedClock tick (clockAt (k .objects) o)
     unfolding setTimer
     setTimer-clock e =
         let c : Kernel = caughtUp k tick in
         let s : ObjectStore = resolved c (r .r0) .store in
         let q : ℕ = resolved c (r .r0) .object .0 in
-        set-other (objectAt s q) (withObjects c s) q (notBelow (pair (r .r2) (r .r3))) (notBelow (pair (r .r1) (r .r4))) tick o (λ d. eqb-false q o e (sym d)) ∙ caught-resolved k f o u tick (r .r0)
+        set-other (objectAt s q) (withObjects c s) q (notBelow (pair (r .r2) (r .r3))) (notBelow (pair (r .r1) (r .r4))) tick o (named-not k tick (r .r0) f o u e) ∙ caught-resolved k f o u tick (r .r0)
 
-    pub cancelTimer-clock : eqb (target k r tick) o ≡ false → clockAt (cancelTimer k r tick .kernel .objects) o ≡ firedClock tick (clockAt (k .objects) o)
+    pub cancelTimer-clock : eqb (target k r) o ≡ false → clockAt (cancelTimer k r tick .kernel .objects) o ≡ firedClock tick (clockAt (k .objects) o)
     unfolding cancelTimer
     cancelTimer-clock e =
         let c : Kernel = caughtUp k tick in
         let s : ObjectStore = resolved c (r .r0) .store in
         let q : ℕ = resolved c (r .r0) .object .0 in
-        content-other s q (cancelled (objectAt s q)) o (λ d. eqb-false q o e (sym d)) ∙ caught-resolved k f o u tick (r .r0)
+        content-other s q (cancelled (objectAt s q)) o (named-not k tick (r .r0) f o u e) ∙ caught-resolved k f o u tick (r .r0)
 
     -- whichever object it names
     pub clearTimer-clock : clockAt (clearTimer k r tick .kernel .objects) o ≡ firedClock tick (clockAt (k .objects) o)
@@ -104,8 +104,8 @@ set-own Process k o a b tick e z l = absurd (omega (arith, e))
 set-own ResourceLimit k o a b tick e z l = absurd (omega (arith, e))
 
 -- it is still a timer after it fired
-setTimer-own : (k : Kernel) → FirstFree (k .objects) → (r : Registers) (t : ℕ) → isTimer (objectAt (k .objects) (target k r t)) ≡ true
-    → clockAt (setTimer k r t .kernel .objects) (target k r t) ≡ setClock t (notBelow (pair (r .r2) (r .r3))) (notBelow (pair (r .r1) (r .r4)))
+setTimer-own : (k : Kernel) → FirstFree (k .objects) → (r : Registers) (t : ℕ) → isTimer (objectAt (k .objects) (resolved (caughtUp k t) (r .r0) .object .0)) ≡ true
+    → clockAt (setTimer k r t .kernel .objects) (resolved (caughtUp k t) (r .r0) .object .0) ≡ setClock t (notBelow (pair (r .r2) (r .r3))) (notBelow (pair (r .r1) (r .r4)))
 unfolding setTimer
 setTimer-own k f r t e =
     let c : Kernel = caughtUp k t in
@@ -116,10 +116,12 @@ setTimer-own k f r t e =
     set-own (objectAt s q) (withObjects c s) q (notBelow (pair (r .r2) (r .r3))) (notBelow (pair (r .r1) (r .r4))) t same (place-from (s .slots) q (omega arith)) (place-to (s .slots) q (omega arith))
 
 pub set-clock : (k : Kernel) (r : Registers) (words : List ℕ) (t o : ℕ) → Sound k → runs? k ≡ true → Sound (call 0x1B k r words t .kernel)
-    → target k r t ≡ o → isTimer (objectAt (k .objects) o) ≡ true
+    → target k r ≡ o → isTimer (objectAt (k .objects) o) ≡ true
     → clockAt (call 0x1B k r words t .kernel .objects) o
     ≡ record { kind = 5; due = cutOff (t + nanosToTicks (record { 0 = notBelow (pair (r .r2) (r .r3)) }) .0); interval = nanosToTicks (record { 0 = notBelow (pair (r .r1) (r .r4)) }) .0 }
 unfolding call
 set-clock k r words t o s g q e i =
-    subst (λ (x : ℕ). isTimer (objectAt (k .objects) x) ≡ true → clockAt (setTimer k r t .kernel .objects) x ≡ setClock t (notBelow (pair (r .r2) (r .r3))) (notBelow (pair (r .r1) (r .r4)))) e
-    (setTimer-own k (parts-free k (sound-parts k s)) r t) i
+    let f : FirstFree (k .objects) = parts-free k (sound-parts k s) in
+    let five : kindNumber (objectAt (k .objects) o) ≡ 5 = eqb-true (kindNumber (objectAt (k .objects) o)) 5 i in
+    subst (λ (x : ℕ). isTimer (objectAt (k .objects) x) ≡ true → clockAt (setTimer k r t .kernel .objects) x ≡ setClock t (notBelow (pair (r .r2) (r .r3))) (notBelow (pair (r .r1) (r .r4)))) (named-is k t (r .r0) f o (omega (arith, five)) e)
+    (setTimer-own k f r t) i

@@ -5,8 +5,22 @@ use mathlib.Core.List.{List, [], _∷_}
 use Prim.Native.Nat.{_<_}
 use Rattle.types.specs.declared.kernel.Kernel.{Kernel}
 use Rattle.sound.specs.Sound.{Sound}
-use Rattle.svc.specs.Dispatch.{runs?}
-use Rattle.demand.specs.Words.{Doing, starts, creates, passes, looks, ends, calls, collects, effect, Event}
+use Rattle.thread.specs.Threads as thread
+use Rattle.kernel.specs.Fresh.{fresh}
+use Rattle.pass.specs.Schedule.{schedule}
+use Rattle.svc.specs.Dispatch.{runs?, given, call}
+use Rattle.svc.specs.Collect.{collect}
+use Rattle.demand.specs.Words.{Doing, starts, creates, passes, looks, ends, calls, collects, Event}
+
+-- what an operation does, by the definitions of the kernel
+abbrev pub effect : Doing → Kernel → Kernel
+effect (starts word) k = fresh word
+effect (creates entry stack priority processor) k = thread.createThread k entry stack priority processor
+effect (passes tick) k = schedule k tick .kernel
+effect looks k = k
+effect (ends t) k = thread.endThread k t
+effect (calls number r words tick) k = call number k (given number r) words tick .kernel
+effect collects k = collect k
 
 -- what holds of the state before an accepted operation: question 2, and question 4 of a guest call; ticks are 64-bit numbers
 abbrev pub Asked : Doing → Kernel → Type 0

@@ -15,7 +15,8 @@ use Rattle.soundness.specs.Whole.{sound-parts}
 use Rattle.kernel.specs.NextEvent.{dueOf}
 use Rattle.thread.specs.Threads.{least}
 use Rattle.pass.specs.Timers.{maxTick}
-use Rattle.demand.specs.Words.{Doing, starts, creates, passes, looks, ends, calls, collects, effect, Event, isTimer, resets?, fires?, firesAt, firedBy, Open, cutOff, Passes, Least, InStep, reached, OnGrid, Grid}
+use Rattle.svc.specs.Dispatch.{given}
+use Rattle.demand.specs.Words.{Doing, starts, creates, passes, looks, ends, calls, collects, Event, isTimer, resets?, fires?, firesAt, firedBy, Open, cutOff, Passes, Least, InStep, reached, OnGrid, Grid}
 use Rattle.timing.specs.Grid.{firedDues, Fit, once}
 use Rattle.timing.specs.Drift.{set-grid}
 use Rattle.timing.specs.Clock.{Clock, clockAt}
@@ -23,7 +24,8 @@ use Rattle.timing.specs.Fires.{firedClocks, clocks-due}
 use Rattle.timing.specs.Keeps.{create-keeps, end-keeps, pass-clock, handle-kind}
 use Rattle.clocks.specs.Threads.{collect-objects}
 use Rattle.clocks.specs.Call.{call-clock}
-use Rattle.course.specs.Course.{Asked, Course, event}
+use Rattle.course.specs.Read.{resets-read}
+use Rattle.course.specs.Course.{effect, Asked, Course, event}
 
 -- ---- ticks fired at, one after the other
 clocks-then : (us vs : List ℕ) (c : Clock) → firedClocks (us ++ vs) c ≡ firedClocks vs (firedClocks us c)
@@ -73,7 +75,7 @@ module _ (o : ℕ) (z : 0 < o) (k : Kernel) (s : Sound k) (h : Open o k) where
   did (passes tick) a q p r = pass-clock k tick o (handle-kind _ (sound-parts _ q) o z p)
   did looks a q p r = refl
   did (ends t) a q p r = end-keeps k t o (handle-kind _ (sound-parts _ q) o z p)
-  did (calls number r words tick) a q p e = call-clock number k r words tick o (a .0) (a .1) q z h p e
+  did (calls number r words tick) a q p e = call-clock number k (given number r) words tick o (a .0) (a .1) q z h p (resets-read number r words tick o k ∙ e)
   did collects a q p r = ap (λ (x : ObjectStore). clockAt x o) (collect-objects k)
 
   fits-did : (d : Doing) → Asked d k → Fit (firesAt d)

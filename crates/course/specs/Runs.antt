@@ -10,12 +10,13 @@ use Rattle.sound.specs.View.{threadAt}
 use Rattle.soundness.specs.Whole.{sound-parts}
 use Rattle.pass.specs.Pick.{isRunnable}
 use Rattle.pass.specs.Schedule.{schedule}
-use Rattle.demand.specs.Words.{Doing, starts, creates, passes, looks, ends, calls, collects, effect, Event, strikes?, Spared, isPass, pass?, Lowest, LowestAt, RunsAt, IfElse, AtNextPass, InTwo}
+use Rattle.svc.specs.Dispatch.{given}
+use Rattle.demand.specs.Words.{Doing, starts, creates, passes, looks, ends, calls, collects, Event, strikes?, Spared, isPass, pass?, Lowest, LowestAt, RunsAt, IfElse, AtNextPass, InTwo}
 use Rattle.timing.specs.Runs.{Urgent, runs-in-two, urgent-after}
 use Rattle.timing.specs.Relief.{create-relief, end-relief}
 use Rattle.deadlines.specs.Ends.{call-relief}
 use Rattle.deadlines.specs.Collect.{collect-relief}
-use Rattle.course.specs.Course.{Asked, Real, Course, event}
+use Rattle.course.specs.Course.{effect, Asked, Real, Course, event}
 
 if-else : {P Q : Type 0} (q : Bool) → (q ≡ true → P) → (q ≡ false → Q) → IfElse q P Q
 if-else true f g = f refl
@@ -27,7 +28,7 @@ pub record Picks (τ : ℕ) (e : Event) : Type 0 where
   pub after : e .after ≡ schedule (e .before) tick .kernel
   pub urgent : Urgent (e .before) tick τ
 
-picks-did : (τ : ℕ) (k : Kernel) (d : Doing) → Asked d k → isPass d ≡ true → Lowest (effect d k .threads) τ → Picks τ (event true k d (effect d k))
+picks-did : (τ : ℕ) (k : Kernel) (d : Doing) → Asked d k → isPass d ≡ true → Lowest (k .threads) (effect d k .threads) τ → Picks τ (event true k d (effect d k))
 picks-did τ k (starts word) a e l = false-true e
 picks-did τ k (creates entry stack priority processor) a e l = false-true e
 picks-did τ k (passes tick) a e l = record { tick = tick; after = refl; urgent = urgent-after k tick τ (sound-parts k (a .0)) l }
@@ -36,12 +37,12 @@ picks-did τ k (ends t) a e l = false-true e
 picks-did τ k (calls number r words tick) a e l = false-true e
 picks-did τ k collects a e l = false-true e
 
-picks-as : (τ : ℕ) (k : Kernel) (a : Bool) (d : Doing) (m : Kernel) → (a ≡ true → Asked d k) → (a ≡ true → m ≡ effect d k) → a and isPass d ≡ true → Lowest (m .threads) τ
+picks-as : (τ : ℕ) (k : Kernel) (a : Bool) (d : Doing) (m : Kernel) → (a ≡ true → Asked d k) → (a ≡ true → m ≡ effect d k) → a and isPass d ≡ true → Lowest (k .threads) (m .threads) τ
     → Picks τ (event a k d m)
 unfolding _and_
 picks-as τ k false d m q f e l = false-true e
 picks-as τ k true d m q f e l =
-    subst (λ (x : Kernel). Picks τ (event true k d x)) (sym (f refl)) (picks-did τ k d (q refl) e (subst (λ (x : Kernel). Lowest (x .threads) τ) (f refl) l))
+    subst (λ (x : Kernel). Picks τ (event true k d x)) (sym (f refl)) (picks-did τ k d (q refl) e (subst (λ (x : Kernel). Lowest (k .threads) (x .threads) τ) (f refl) l))
 
 picks : (τ : ℕ) (e : Event) → Real e → pass? e ≡ true → LowestAt τ e → Picks τ e
 picks τ e r p l = picks-as τ (e .before) (e .accepted) (e .does) (e .after) (r .asked) (r .did) p l
@@ -53,7 +54,7 @@ relief-did τ k (creates entry stack priority processor) a e s = create-relief k
 relief-did τ k (passes tick) a e s = false-true (sym e)
 relief-did τ k looks a e s = refl
 relief-did τ k (ends t) a e s = end-relief k t
-relief-did τ k (calls number r words tick) a e s = call-relief number k r words tick (sound-parts k (a .0))
+relief-did τ k (calls number r words tick) a e s = call-relief number k (given number r) words tick (sound-parts k (a .0))
 relief-did τ k collects a e s = collect-relief k
 
 relief-as : (τ : ℕ) (k : Kernel) (a : Bool) (d : Doing) (m : Kernel) → (a ≡ false → m ≡ k) → (a ≡ true → Asked d k) → (a ≡ true → m ≡ effect d k) → a and isPass d ≡ false → a and strikes? τ d k ≡ false

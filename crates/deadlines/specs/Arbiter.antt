@@ -1,6 +1,6 @@
 -- 0x22: kind 0 wakes threads that are parked at the address, the others park the current thread.
 use mathlib.Core.Path.{_≡_, refl, ap, sym, subst, _∙_}
-use mathlib.Core.Bool.{Bool, true, false, not}
+use mathlib.Core.Bool.{Bool, true, false, not, cond}
 use mathlib.Core.Logic.{_≢_, inl, inr}
 use mathlib.Core.List.{List, [], _∷_, _++_}
 use Prim.Native.Nat.{ℕ, zero, suc, _+_, _<_}
@@ -33,7 +33,6 @@ use Rattle.soundness.specs.Slots.{pick-both}
 use Rattle.soundness.specs.Threads.{thread-same, thread-other}
 use Rattle.kernel.specs.NextEvent.{contains}
 use Rattle.pass.specs.Waits.{wakeTick}
-use Rattle.demand.specs.Words.{wokenFor, wokenIf}
 use Rattle.timing.specs.Wait.{waitOf, Blocked, blocked-in}
 use Rattle.svc.specs.declared.Registers.{Registers}
 use Rattle.svc.specs.declared.Served.{Served}
@@ -44,6 +43,18 @@ use Rattle.deadlines.specs.Effect.{Runs, running-status, running-in, Tim
 use Rattle.kernel.specs.Marks.{contains-end}
 
 -- ---- who is woken
+-- the threads that a call wakes, x being what its handle names
+abbrev pub wokenFor : ArbitrationType → Kernel → Resolved → Registers → List ℕ
+wokenFor Signal k x r = pick (eqb (x .object .0) 0) [] (wokenAt (k .threads) (x .store) (x .object .0) (r .r1) (r .r3))
+wokenFor WaitIfLessThan k x r = []
+wokenFor DecrementAndWaitIfLessThan k x r = []
+wokenFor WaitIfLessThanWithTimeout k x r = []
+wokenFor DecrementAndWaitIfLessThanWithTimeout k x r = []
+
+abbrev pub wokenIf : ArbitrationOption → Kernel → Registers → List ℕ
+wokenIf NoArbitration k r = []
+wokenIf (SomeArbitration kind) k r = wokenFor kind k (resolved k (r .r0)) r
+
 module _ (ts : List Thread) (ws : List Waiter) (a value : ℕ) where
   -- every thread of the list is parked at the address
   abbrev AllParked : List ℕ → Type 0
@@ -182,6 +193,43 @@ pub if-parked : (o : ArbitrationOption) (k : Kernel) (r : Registers) (w : ℕ) �
 unfolding contains
 if-parked NoArbitration k r w e = false-true e
 if-parked (SomeArbitration kind) k r w e = for-parked kind k (resolved k (r .r0)) r w e
+
+-- and only kind 0 wakes any
+abbrev isSignal : ArbitrationOption → Bool
+isSignal NoArbitration = false
+isSignal (SomeArbitration Signal) = true
+isSignal (SomeArbitration WaitIfLessThan) = false
+isSignal (SomeArbitration DecrementAndWaitIfLessThan) = false
+isSignal (SomeArbitration WaitIfLessThanWithTimeout) = false
+isSignal (SomeArbitration DecrementAndWaitIfLessThanWithTimeout) = false
+
+woken-signal : (o : ArbitrationOption) (k : Kernel) (r : Registers) (w : ℕ) → contains (wokenIf o k r) w ≡ true → isSignal o ≡ true
+unfolding contains
+woken-signal NoArbitration k r w e = e
+woken-signal (SomeArbitration Signal) k r w e = refl
+woken-signal (SomeArbitration WaitIfLessThan) k r w e = e
+woken-signal (SomeArbitration DecrementAndWaitIfLessThan) k r w e = e
+woken-signal (SomeArbitration WaitIfLessThanWithTimeout) k r w e = e
+woken-signal (SomeArbitration DecrementAndWaitIfLessThanWithTimeout) k r w e = e
+
+signal-raw : (n : ℕ) → isSignal (arbitrationFromRaw n) ≡ true → eqb n 0 ≡ true
+signal-raw n e = go (eqb n 0) (eqb n 1) (eqb n 2) (eqb n 3) (eqb n 4) e
+  where
+    go : (a b c d f : Bool)
+        → isSignal
+        (cond a (SomeArbitration Signal)
+        (cond b (SomeArbitration WaitIfLessThan)
+        (cond c (SomeArbitration DecrementAndWaitIfLessThan) (cond d (SomeArbitration WaitIfLessThanWithTimeout) (cond f (SomeArbitration DecrementAndWaitIfLessThanWithTimeout) NoArbitration)))))
+        ≡ true → a ≡ true
+    go true b c d f h = refl
+    go false true c d f h = h
+    go false false true d f h = h
+    go false false false true f h = h
+    go false false false false true h = h
+    go false false false false false h = h
+
+pub if-signal : (k : Kernel) (r : Registers) (w : ℕ) → contains (wokenIf (arbitrationFromRaw (r .r2)) k r) w ≡ true → eqb (r .r2) 0 ≡ true
+if-signal k r w e = signal-raw (r .r2) (woken-signal (arbitrationFromRaw (r .r2)) k r w e)
 
 -- an unknown handle leaves every thread
 unknown : (k : Kernel) (s : ObjectStore) (timed : Bool) (n tick : ℕ) → Effect k [] true timed n tick (withObjects k s)

@@ -6,7 +6,7 @@ use Prim.Native.Nat.{ℕ}
 use lib.Dec.{eqb}
 use lib.ListN.{getD}
 use borrow.Author.Tests.{eqb-true}
-use Rattle.laws.specs.Logic.{pick-no, _and_, _or_}
+use Rattle.laws.specs.Logic.{pick, pick-no, _and_, _or_}
 use Rattle.types.specs.declared.kernel.Kernel.{Kernel}
 use Rattle.types.specs.Sync.{arbitrationFromRaw}
 use Rattle.soundness.specs.Slots.{pick-if}
@@ -21,14 +21,18 @@ use Rattle.svc.specs.Arbiter.{createAddressArbiter, arbitrateAddress}
 use Rattle.svc.specs.Waits.{waitSynchronization1, waitSynchronizationN}
 use Rattle.svc.specs.Handles.{closeHandle, duplicateHandle}
 use Rattle.svc.specs.Dispatch.{call}
-use Rattle.demand.specs.Words.{wokenIf, wakes, timedWait?, waitNanos}
+use Rattle.demand.specs.Words.{timedWait?, waitNanos}
 use Rattle.deadlines.specs.Effect.{Effect, Calm, calm-effect, same-calm}
 use Rattle.deadlines.specs.Same.{Leaves, createMutex-same, releaseMutex-same, createSemaphore-same, releaseSemaphore-same, createEvent-same, signalEvent-same, clearEvent-same, createTimer-same, setTimer-same, cancelTimer-same, clearTimer-same, createArbiter-same, closeHandle-same, duplicateHandle-same}
 use Rattle.deadlines.specs.Threads.{createThread-calm, exitThread-calm, sleepThread-effect, setPriority-calm}
 use Rattle.deadlines.specs.Waits.{wait1-effect, waitN-effect}
-use Rattle.deadlines.specs.Arbiter.{timedKind, arbitrate-effect}
+use Rattle.deadlines.specs.Arbiter.{wokenIf, timedKind, arbitrate-effect}
 
 -- ---- by number
+-- the threads that a call wakes
+unfoldable pub wakes : ℕ → Kernel → Registers → List ℕ
+wakes number k r = pick (eqb number 0x22) (wokenIf (arbitrationFromRaw (r .r2)) k r) []
+
 -- the calls that may park the current thread
 unfoldable pub parks? : ℕ → Bool
 parks? number = eqb number 0x0A or (eqb number 0x22 or (eqb number 0x24 or eqb number 0x25))

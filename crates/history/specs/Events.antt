@@ -6,8 +6,8 @@ use Prim.Native.Nat.{ℕ}
 use Rattle.block.specs.Block.{decBlock}
 use Rattle.sound.specs.Question.{sound?, t-block}
 use Rattle.svc.specs.Dispatch.{given}
-use Rattle.demand.specs.Words.{Doing, starts, creates, passes, looks, ends, calls, collects, effect, Event}
-use Rattle.course.specs.Course.{Asked, Real, Course}
+use Rattle.demand.specs.Words.{Doing, starts, creates, passes, looks, ends, calls, collects, Event}
+use Rattle.course.specs.Course.{effect, Asked, Real, Course}
 use Rattle.lent.specs.Lent.{Lent, lent, Back, accepted?}
 use Rattle.lent.specs.Guest.{registers, wordsIn}
 use Rattle.history.specs.Step.{Op, opFreshStart, opNextEvent, opCreateThread, opSchedule, opSatisfiedNow, opQuietRelease, opEndThread, opDispatch, opCollect, step, Entry, trace}
@@ -23,9 +23,9 @@ doing (opSchedule bank u processor p answer v tick h) = passes tick
 doing (opSatisfiedNow handles w answer u all h tick t) = looks
 doing (opQuietRelease answer u handle h tick t) = looks
 doing (opEndThread thread h) = ends thread
--- the registers that the call may read, and the words that it reads
+-- the registers as they are lent, and the words that the call reads
 doing (opDispatch bank u processor p window w base x number n tick t) =
-    calls number (given number (registers processor)) (wordsIn base window number (given number (registers processor))) tick
+    calls number (registers processor) (wordsIn base window number (given number (registers processor))) tick
 doing (opCollect answer u) = collects
 
 -- an entry by the states that its blocks say

@@ -50,7 +50,7 @@ module _ (k : Kernel) where
 
 -- ---- questions 3 to 6
 refusal-as : (a b c d : Bool) → Refusal (pick a (pick b (pick c 5 (pick d 6 0)) 4) 3)
-unfolding accepted? _or_
+unfolding accepted? _or_ _and_
 refusal-as true true true d n = refl
 refusal-as true true false true n = refl
 refusal-as true true false false n = absurd (n refl)
@@ -101,9 +101,9 @@ few-words base number w r t e =
     omega (arith, length-decAll num 4 (wordsRead number r) w (r .r1 - base), n, ltb-false 8 (r .r2) m)
 
 accepted-is : (n : ℕ) → Accepted n → accepted? n ≡ true
-unfolding accepted? _or_
-accepted-is n (inl e) = ap (λ (m : ℕ). eqb m 0 or leb 16 m) e
-accepted-is n (inr h) = ap (λ (q : Bool). eqb n 0 or q) (le-leb 16 n h) ∙ or-yes (eqb n 0)
+unfolding accepted? _or_ _and_
+accepted-is n (inl e) = ap (λ (m : ℕ). eqb m 0 or (leb 16 m and leb m 18)) e
+accepted-is n (inr h) = ap (λ (q : Bool). eqb n 0 or q) (rw (le-leb 16 n (h .0), le-leb n 18 (h .1))) ∙ or-yes (eqb n 0)
   where
     or-yes : (q : Bool) → q or true ≡ true
     or-yes true = refl
@@ -111,12 +111,12 @@ accepted-is n (inr h) = ap (λ (q : Bool). eqb n 0 or q) (le-leb 16 n h) ∙ or-
 
 -- ---- a guest call
 pub dispatch-keeps : (base number tick : ℕ) → tick < 18446744073709551616 → (l : Lent) → Bytes (l .processor)
-    → Kept (calls number (given number (registers (l .processor))) (wordsIn base (l .window) number (given number (registers (l .processor)))) tick) l (dispatch base number tick l)
+    → Kept (calls number (registers (l .processor)) (wordsIn base (l .window) number (given number (registers (l .processor)))) tick) l (dispatch base number tick l)
 unfolding dispatch
 dispatch-keeps base number tick t l p =
     let r : Registers = given number (registers (l .processor)) in
     let words : List ℕ = wordsIn base (l .window) number r in
-    change-keeps (calls number r words tick) (refusal base (length (l .window)) number r)
+    change-keeps (calls number (registers (l .processor)) words tick) (refusal base (length (l .window)) number r)
     (λ k. back (served base number tick l k .answer) (servedWritten base number l k (served base number tick l k))) l
     (record {
       refuses = λ k. call-refusal base (length (l .window)) number r k;
@@ -131,12 +131,12 @@ dispatch-keeps base number tick t l p =
 
 -- ---- collect
 runs-refusal : (b : Bool) → Refusal (pick b 0 4)
-unfolding accepted? _or_
+unfolding accepted? _or_ _and_
 runs-refusal true n = absurd (n refl)
 runs-refusal false n = refl
 
 pub collect-keeps : (l : Lent) → Kept collects l (collect l)
-unfolding collect accepted? _or_
+unfolding collect accepted? _or_ _and_
 collect-keeps l =
     change-keeps collects (λ k. pick (runs? k) 0 4) (λ k. back 0 (lent (encBlock (svc.collect k)) (l .bank) (l .processor) (l .window) (collectBytes k))) l
     (record {

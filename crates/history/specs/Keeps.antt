@@ -25,7 +25,8 @@ use Rattle.soundness.specs.Ends.{endThread-sound}
 use Rattle.pass.specs.Schedule as pass
 use Rattle.pass.specs.Asks as asks
 use Rattle.passing.specs.Pass.{schedule-sound}
-use Rattle.demand.specs.Words.{Doing, starts, creates, passes, looks, ends, effect}
+use Rattle.demand.specs.Words.{Doing, starts, creates, passes, looks, ends}
+use Rattle.course.specs.Course.{effect}
 use Rattle.course.specs.Course.{Asked}
 use Rattle.lent.specs.Lent.{Lent, lent, withAnswer, withBlock, Back, back, accepted?}
 use Rattle.lent.specs.Operations.{outOfHandles?, inspect, freshStart, tickBytes, nextEvent, finding, change, rowMade, createThread, passWritten, schedule, words, satisfiedBytes, satisfiedNow, releaseBytes, quietRelease, endRefusal, endThread}
@@ -46,7 +47,7 @@ refused d l n e = record { sound = λ h. false-true (sym e ∙ h); same = λ h. 
 module _ (look : Kernel → List ℕ) (l : Lent) where
   looked-as : (t s q : Bool) → sound? (l .block) ≡ s
       → Kept looks l (pick t (pick s (pick q (back 8 l) (back 0 (withAnswer l (look (decBlock (l .block)))))) (back 2 l)) (back 1 l))
-  unfolding accepted? _or_
+  unfolding accepted? _or_ _and_
   looked-as true true true e = refused looks l 8 refl
   looked-as true true false e = record { sound = λ h. e; same = λ h. false-true (sym h); asked = λ h. t-block (l .block) .yes e .state; did = λ h. refl }
   looked-as true false q e = refused looks l 2 refl
@@ -59,7 +60,7 @@ module _ (look : Kernel → List ℕ) (l : Lent) where
 -- ---- a fresh start
 fresh-as : (w : ℕ) → w < 4294967296 → (l : Lent) (t : Bool)
     → Kept (starts w) l (pick t (back 0 (lent (encBlock (fresh w)) (replicate 6656 0) (l .processor) (l .window) (l .answer))) (back 1 l))
-unfolding accepted? _or_
+unfolding accepted? _or_ _and_
 fresh-as w h l true = record {
   sound = λ q. encoded-sound (fresh w) (fresh-sound w h);
   same = λ q. false-true (sym q);
@@ -92,7 +93,7 @@ abbrev pub Refusal : ℕ → Type 0
 Refusal n = (n ≡ 0 → ⊥) → accepted? n ≡ false
 
 finding-refusal : (k : Kernel) → Refusal (finding k)
-unfolding finding accepted? _or_
+unfolding finding accepted? _or_ _and_
 finding-refusal k = go (k .full or (k .objects .full or k .handles .full)) (k .overflow or (k .objects .overflow or (k .handles .overflow or outOfHandles? k)))
   where
     go : (a b : Bool) → Refusal (pick a 7 (pick b 8 0))
@@ -126,7 +127,7 @@ module _ (d : Doing) (refusal : Kernel → ℕ) (result : Kernel → Back) (l : 
 
   changed-as : (t s q r : Bool) → sound? (l .block) ≡ s → eqb (refusal k) 0 ≡ q → eqb (finding (effect d k)) 0 ≡ r
       → Kept d l (pick t (pick s (pick q (pick r (result k) (back (finding (effect d k)) l)) (back (refusal k) l)) (back 2 l)) (back 1 l))
-  unfolding accepted? _or_
+  unfolding accepted? _or_ _and_
   changed-as true true true true e f g = done e (eqb-true (refusal k) 0 f) (eqb-true (finding (effect d k)) 0 g)
   changed-as true true true false e f g = refused d l (finding (effect d k)) (finding-refusal (effect d k) (eqb-false (finding (effect d k)) 0 g))
   changed-as true true false r e f g = refused d l (refusal k) (w .refuses k (eqb-false (refusal k) 0 f))
@@ -140,7 +141,7 @@ module _ (d : Doing) (refusal : Kernel → ℕ) (result : Kernel → Back) (l : 
 -- ---- a thread is made
 pub createThread-keeps : (entry stack arg priority processor : ℕ) → entry < 4294967296 → stack < 4294967296 → processor < 4294967296
     → (l : Lent) → Kept (creates entry stack priority processor) l (createThread entry stack arg priority processor l)
-unfolding createThread accepted? _or_
+unfolding createThread accepted? _or_ _and_
 createThread-keeps entry stack arg priority processor we ws wp l =
     change-keeps (creates entry stack priority processor) (λ k. 0)
     (λ k. back 0 (lent (encBlock (thread.createThread k entry stack priority processor)) (rowMade (l .bank) k entry stack arg) (l .processor) (l .window) (bytes 4 (thread.endedThread k)))) l
@@ -155,7 +156,7 @@ createThread-keeps entry stack arg priority processor we ws wp l =
 
 -- ---- a pass
 pub schedule-keeps : (tick : ℕ) → tick < 18446744073709551616 → (l : Lent) → Kept (passes tick) l (schedule tick l)
-unfolding schedule accepted? _or_
+unfolding schedule accepted? _or_ _and_
 schedule-keeps tick h l =
     change-keeps (passes tick) (λ k. 0) (λ k. back 0 (passWritten l (pass.schedule k tick))) l
     (record {
@@ -169,7 +170,7 @@ schedule-keeps tick h l =
 
 -- ---- a thread ends
 end-refusal : (t : ℕ) (k : Kernel) → Refusal (endRefusal t k)
-unfolding endRefusal accepted? _or_
+unfolding endRefusal accepted? _or_ _and_
 end-refusal t k = go (ltb t (k .«thread_count»)) (isDead (threadAt (k .threads) t .status))
   where
     go : (a b : Bool) → Refusal (pick a (pick b 4 0) 4)
@@ -186,7 +187,7 @@ end-exists t k e = go (ltb t (k .«thread_count»)) refl e
     go false f z = absurd (omega arith)
 
 pub endThread-keeps : (t : ℕ) (l : Lent) → Kept (ends t) l (endThread t l)
-unfolding endThread accepted? _or_
+unfolding endThread accepted? _or_ _and_
 endThread-keeps t l =
     change-keeps (ends t) (endRefusal t) (λ k. back 0 (withBlock l (encBlock (thread.endThread k t)))) l
     (record {

@@ -3,7 +3,7 @@ use mathlib.Core.Bool.{Bool}
 use mathlib.Core.List.{List}
 use Prim.Native.Nat.{ℕ}
 use lib.Dec.{eqb, leb}
-use Rattle.laws.specs.Logic.{_or_}
+use Rattle.laws.specs.Logic.{_and_, _or_}
 
 -- the lent slices; one that an operation is not lent is empty
 pub record Lent : Type 0 where
@@ -30,6 +30,6 @@ withAnswer l a = lent (l .block) (l .bank) (l .processor) (l .window) a
 abbrev pub withBlock : Lent → List ℕ → Lent
 withBlock l b = lent b (l .bank) (l .processor) (l .window) (l .answer)
 
--- 0 and the kernel answers, from 16 on, are accepted; 1 to 8 are refusals
+-- 0 and the kernel answers, 16 to 18, are accepted; all else is a refusal
 unfoldable pub accepted? : ℕ → Bool
-accepted? n = eqb n 0 or leb 16 n
+accepted? n = eqb n 0 or (leb 16 n and leb n 18)

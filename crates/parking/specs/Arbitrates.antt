@@ -72,7 +72,7 @@ module _ (kind : ArbitrationType) (k : Kernel) (r : Registers) (word tick : ℕ)
       as-parts (withObjects k (resolved k h .store)) (resolved k h .object .0) (r .r1) (r .r3) word (pair (r .r4) (r .r5)) tick z (resolved-slot k p h e z) (f .r1) u (resolved-parts k p h e) kind (c .overflow) (c .storeFull)
 
   served-answers : (b : Bool) → Accepted (served b .answer)
-  served-answers true = inr (omega arith)
+  served-answers true = inr (omega arith, omega arith)
   served-answers false = inl (as-answer (withObjects k (resolved k (r .r0) .store)) (resolved k (r .r0) .object .0) (r .r1) (r .r3) word (pair (r .r4) (r .r5)) tick kind)
 
 -- ---- an unknown kind is refused before that
@@ -82,7 +82,7 @@ by-parts NoArbitration k r word tick f u p c = p
 by-parts (SomeArbitration kind) k r word tick f u p c = served-parts kind k r word tick (eqb (resolved k (r .r0) .object .0) 0) refl f u p c
 
 by-answers : (kind : ArbitrationOption) (k : Kernel) (r : Registers) (word tick : ℕ) → Accepted (arbitrateBy kind k r word tick .answer)
-by-answers NoArbitration k r word tick = inr (omega arith)
+by-answers NoArbitration k r word tick = inr (omega arith, omega arith)
 by-answers (SomeArbitration kind) k r word tick = served-answers kind k r word tick (eqb (resolved k (r .r0) .object .0) 0)
 
 pub arbitrateAddress-sound : (k : Kernel) (r : Registers) (word tick : ℕ) → RegistersFit r → runs? k ≡ true → Sound k → Clear (arbitrateAddress k r word tick .kernel)

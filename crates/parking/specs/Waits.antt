@@ -43,7 +43,7 @@ use Rattle.parking.specs.Lists.{all-length, store-overflow, AllFound, al
 use Rattle.parking.specs.Begins.{Sticks, sticks-same, acquire-full, acquires-full, unless-sticks, unless-parts}
 
 unless-answers : (k : Kernel) (c : ℕ) (os : List ℕ) (all : Bool) (nanos tick : ℕ) (call : WaitSyscall) → Accepted (waitUnless k c os all nanos tick call .answer)
-unless-answers k c os all nanos tick call = pick-both (λ (v : Served). Accepted (v .answer)) (eqb nanos 0) (answers timeout k) (waitOn k c os all nanos tick call) (inr (omega arith)) (inl refl)
+unless-answers k c os all nanos tick call = pick-both (λ (v : Served). Accepted (v .answer)) (eqb nanos 0) (answers timeout k) (waitOn k c os all nanos tick call) (inr (omega arith, omega arith)) (inl refl)
 
 -- ---- what one object's acquisition leaves
 acquire-down : (s : ObjectStore) (o c : ℕ) → Sticks s (acquire s o c)
@@ -90,7 +90,7 @@ module _ (k : Kernel) (h nanos tick : ℕ) where
   served1-sticks false = one-sticks (withObjects k (resolved k h .store)) (resolved k h .object .0) nanos tick (k .«current_thread»)
 
   served1-answers : (b : Bool) → Accepted (served1 b .answer)
-  served1-answers true = inr (omega arith)
+  served1-answers true = inr (omega arith, omega arith)
   served1-answers false = one-answers (withObjects k (resolved k h .store)) (resolved k h .object .0) nanos tick (k .«current_thread»)
 
   served1-parts : (b : Bool) → eqb (resolved k h .object .0) 0 ≡ b → Parts k → Unlisted (k .threads) (k .«current_thread») → Clear (served1 b .kernel) → Parts (served1 b .kernel)
@@ -171,7 +171,7 @@ module _ (k : Kernel) (hs : List ℕ) (all : Bool) (nanos tick : ℕ) where
   servedN-sticks false = many-sticks (withObjects k left) found all nanos tick (k .«current_thread»)
 
   servedN-answers : (b : Bool) → Accepted (servedN b .answer)
-  servedN-answers true = inr (omega arith)
+  servedN-answers true = inr (omega arith, omega arith)
   servedN-answers false = many-answers (withObjects k left) found all nanos tick (k .«current_thread»)
 
   servedN-parts : (b : Bool) → contains found 0 ≡ b → length hs ≤ 8 → Parts k → Unlisted (k .threads) (k .«current_thread») → Clear (servedN b .kernel) → Parts (servedN b .kernel)

@@ -10,9 +10,8 @@ use Rattle.types.specs.declared.kernel.Kernel.{Kernel}
 use Rattle.sound.specs.View.{threadAt}
 use Rattle.pass.specs.Pick.{isRunnable}
 use Rattle.pass.specs.Schedule.{schedule}
-use Rattle.demand.specs.Words.{isGiven}
 use Rattle.timing.specs.Wait.{waitOf, Blocked}
-use Rattle.timing.specs.Turn.{stays?, fateAt}
+use Rattle.timing.specs.Turn.{stays?, isGiven, fateAt}
 use Rattle.timing.specs.Pass.{pass-stays, pass-ends}
 use Rattle.timing.specs.Late.{byTime?, ends-given, time-given, stays-given, late-not-stays, time-from}
 

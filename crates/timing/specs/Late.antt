@@ -1,27 +1,36 @@
 -- When a pass ends a wait by time: not before its tick, at the latest at its tick, and only if what it waits for is not there.
 use mathlib.Core.Path.{_≡_, refl, ap, sym, _∙_}
 use mathlib.Core.Bool.{Bool, true, false}
-use Prim.Native.Nat.{ℕ, _≤_, _<_}
+use mathlib.Core.List.{List, [], _∷_}
+use Prim.Native.Nat.{ℕ, _+_, _≤_, _<_}
+use lib.Dec.{eqb}
 use borrow.Author.Tests.{le-leb, lt-leb, leb-true}
-use Rattle.laws.specs.Logic.{pick, false-true}
+use Rattle.laws.specs.Logic.{pick, _or_, false-true}
 use Rattle.units.specs.declared.Ticks.{Ticks}
+use Rattle.types.specs.declared.thread.ThreadOption.{ThreadOption}
+use Rattle.types.specs.declared.thread.ThreadOption.the-variants.{NoThread, SomeThread}
 use Rattle.types.specs.declared.thread.TickOption.{TickOption}
 use Rattle.types.specs.declared.thread.TickOption.the-variants.{SomeTick}
 use Rattle.types.specs.declared.thread.ThreadStatus.{ThreadStatus}
 use Rattle.types.specs.declared.thread.ThreadStatus.the-variants.{Dead, Running, Ready, Sleeping, WaitSync, WaitArbiter, Dormant}
 use Rattle.types.specs.declared.thread.Thread.{Thread}
+use Rattle.types.specs.declared.object.KObject.{KObject}
+use Rattle.types.specs.declared.object.KObject.the-variants as object
 use Rattle.types.specs.declared.kernel.Kernel.{Kernel}
-use Rattle.types.specs.Thread.{isBlocked}
-use Rattle.sound.specs.View.{threadAt}
+use Rattle.types.specs.Thread.{threadFlag, isBlocked}
+use Rattle.sound.specs.View.{objectAt, threadAt}
+use Rattle.sound.specs.Threads.{isCurrent}
 use Rattle.pass.specs.declared.IndexOption.{IndexOption}
 use Rattle.pass.specs.declared.IndexOption.the-variants.{NoIndex, SomeIndex}
 use Rattle.pass.specs.declared.Fate.{Fate}
 use Rattle.pass.specs.declared.Fate.the-variants.{Stays, Given, TimedOut, Slept}
+use Rattle.pass.specs.declared.Waits.{Waits}
+use Rattle.pass.specs.Signal.{freeFor, isSignaled}
 use Rattle.pass.specs.Timers.{dueBy}
-use Rattle.pass.specs.Waits.{satisfiedAt, waitedObjects, fateOf, fateAs, fate}
-use Rattle.demand.specs.Words.{turn, isGiven}
+use Rattle.pass.specs.Waits.{allSignaled, firstSignaled, satisfiedAt, waitedObjects, fateOf, fateAs, fate}
+use Rattle.demand.specs.Words.{passes, satisfies?, oneOf, allOf, turn, listSatisfied?, objectsGive?, gives?}
 use Rattle.timing.specs.Wait.{Blocked}
-use Rattle.timing.specs.Turn.{stays?, fateAt, turn-own}
+use Rattle.timing.specs.Turn.{stays?, isGiven, fateAt, turn-own}
 
 -- ---- how a wait ends
 -- by time
@@ -84,28 +93,71 @@ module _ (found : IndexOption) where
   early-time WaitArbiter = refl
   early-time Dormant = refl
 
--- what waits on objects and ends by time found none
-none-found : (x : IndexOption) (late : Bool) → byTime? (fateOf x late) ≡ true → x ≡ NoIndex
-none-found NoIndex late e = refl
-none-found (SomeIndex i) late e = false-true e
+-- ---- only a wait on objects is given something by a pass, and then as the demand says
+free-is : (o : ThreadOption) (w : ℕ) → freeFor o w ≡ eqb (threadFlag o) 0 or isCurrent o w
+unfolding _or_
+free-is NoThread w = refl
+free-is (SomeThread u) w = refl
 
--- only a wait on objects is given something by a pass, and it is what it found
-abbrev pub Found : ThreadStatus → IndexOption → Type 0
-Found s x = (s ≡ WaitSync) × ((i : ℕ) × (x ≡ SomeIndex i))
+signaled-is : (ts : List Thread) (x : KObject) (w : ℕ) → isSignaled ts x w ≡ satisfies? ts x w
+signaled-is ts (object.Free n) w = refl
+signaled-is ts (object.Thread u) w = refl
+signaled-is ts (object.Event e) w = refl
+signaled-is ts (object.Mutex m) w = free-is (m .owner) w
+signaled-is ts (object.Semaphore s) w = refl
+signaled-is ts (object.Timer t) w = refl
+signaled-is ts (object.AddressArbiter a) w = refl
+signaled-is ts object.Process w = refl
+signaled-is ts object.ResourceLimit w = refl
 
-not-given : (late : Bool) (f : Fate) → isGiven f ≡ false → isGiven (pick late f Stays) ≡ false
-not-given true f e = e
-not-given false f e = refl
+abbrev found? : IndexOption → Bool
+found? NoIndex = false
+found? (SomeIndex i) = true
 
-given-found : (s : ThreadStatus) (x : IndexOption) (late : Bool) → isGiven (fateAs s x late) ≡ true → Found s x
-given-found Dead x late e = false-true e
-given-found Running x late e = false-true e
-given-found Ready x late e = false-true e
-given-found Sleeping x late e = false-true (sym (not-given late Slept refl) ∙ e)
-given-found WaitSync NoIndex late e = false-true (sym (not-given late TimedOut refl) ∙ e)
-given-found WaitSync (SomeIndex i) late e = (refl, (i, refl))
-given-found WaitArbiter x late e = false-true (sym (not-given late TimedOut refl) ∙ e)
-given-found Dormant x late e = false-true e
+module _ (x : Waits) (w : ℕ) where
+  abbrev test : ℕ → Bool
+  test o = satisfies? (x .threads) (objectAt (x .objects) o) w
+
+  all-is : (os : List ℕ) → allSignaled (x .threads) (x .objects) w os ≡ allOf test os
+  unfolding allSignaled allOf
+  all-is [] = refl
+  all-is (o ∷ os) = rw (signaled-is (x .threads) (objectAt (x .objects) o) w, all-is os)
+
+  first-then : (q : Bool) (i : ℕ) (y : IndexOption) (rest : Bool) → found? y ≡ rest → found? (pick q (SomeIndex i) y) ≡ q or rest
+  unfolding _or_
+  first-then true i y rest e = refl
+  first-then false i y rest e = e
+
+  first-is : (i : ℕ) (os : List ℕ) → found? (firstSignaled (x .threads) (x .objects) w i os) ≡ oneOf test os
+  unfolding firstSignaled oneOf
+  first-is i [] = refl
+  first-is i (o ∷ os) =
+      first-then (isSignaled (x .threads) (objectAt (x .objects) o) w) i (firstSignaled (x .threads) (x .objects) w (i + 1) os) (oneOf test os) (first-is (i + 1) os)
+      ∙ ap (λ (q : Bool). q or oneOf test os) (signaled-is (x .threads) (objectAt (x .objects) o) w)
+
+  list-is : (all : Bool) (os : List ℕ) → found? (satisfiedAt (x .threads) (x .objects) w all os) ≡ pick all (allOf test os) (oneOf test os)
+  list-is true os = go (allSignaled (x .threads) (x .objects) w os) (all-is os)
+    where
+      go : (q : Bool) → q ≡ allOf test os → found? (pick q (SomeIndex 0) NoIndex) ≡ allOf test os
+      go true e = e
+      go false e = e
+  list-is false os = first-is 0 os
+
+given-found : (x : IndexOption) (late : Bool) → isGiven (fateOf x late) ≡ found? x
+given-found NoIndex true = refl
+given-found NoIndex false = refl
+given-found (SomeIndex i) late = refl
+
+given-as : (s : ThreadStatus) (t : Thread) (x : Waits) (w : ℕ) (f : IndexOption) (late : Bool) → found? f ≡ listSatisfied? t x w → isGiven (fateAs s f late) ≡ objectsGive? s t x w
+given-as Dead t x w f late e = refl
+given-as Running t x w f late e = refl
+given-as Ready t x w f late e = refl
+given-as Sleeping t x w f true e = refl
+given-as Sleeping t x w f false e = refl
+given-as WaitSync t x w f late e = given-found f late ∙ e
+given-as WaitArbiter t x w f true e = refl
+given-as WaitArbiter t x w f false e = refl
+given-as Dormant t x w f late e = refl
 
 -- ---- at the turn of thread w
 module _ (k : Kernel) (tick w : ℕ) where
@@ -141,17 +193,8 @@ module _ (k : Kernel) (tick w : ℕ) where
       let d : dueBy (threadAt (k .threads) w .«wakeup_at») tick ≡ false = ap (λ (o : TickOption). dueBy o tick) e ∙ lt-leb (at .0) tick l in
       ap byTime? (fate-is ∙ ap (λ (q : Bool). fateAs (threadAt (k .threads) w .status) foundAt q) d) ∙ early-time foundAt (threadAt (k .threads) w .status)
 
-  -- a wait on objects that ends by time is not satisfied at its turn
-  pub time-unsatisfied : byTime? (fateAt k tick w) ≡ true → threadAt (k .threads) w .status ≡ WaitSync → foundAt ≡ NoIndex
-  time-unsatisfied e q =
-      let late : Bool = dueBy (threadAt (k .threads) w .«wakeup_at») tick in
-      none-found foundAt late (ap byTime? (sym (fate-is ∙ ap (λ (s : ThreadStatus). fateAs s foundAt late) q)) ∙ e)
-
-  -- a wait that a pass gives something is one on objects, satisfied at its turn; and such a one is given it
-  pub given-satisfied : isGiven (fateAt k tick w) ≡ true → Found (threadAt (k .threads) w .status) foundAt
-  given-satisfied e = given-found (threadAt (k .threads) w .status) foundAt (dueBy (threadAt (k .threads) w .«wakeup_at») tick) (ap isGiven (sym fate-is) ∙ e)
-
-  pub satisfied-given : (i : ℕ) → threadAt (k .threads) w .status ≡ WaitSync → foundAt ≡ SomeIndex i → fateAt k tick w ≡ Given i
-  satisfied-given i q f =
-      let late : Bool = dueBy (threadAt (k .threads) w .«wakeup_at») tick in
-      fate-is ∙ ap (λ (s : ThreadStatus). fateAs s foundAt late) q ∙ ap (λ (x : IndexOption). fateOf x late) f
+  -- a pass gives a thread something exactly if its objects are satisfied at its turn, in the words of the demand
+  pub given-words : isGiven (fateAt k tick w) ≡ gives? w (passes tick) k
+  given-words =
+      let t : Thread = threadAt (k .threads) w in
+      ap isGiven fate-is ∙ given-as (t .status) t (turn k tick w) w foundAt (dueBy (t .«wakeup_at») tick) (list-is (turn k tick w) w (t .«wait_all») (waitedObjects t))

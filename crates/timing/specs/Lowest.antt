@@ -20,8 +20,8 @@ use Rattle.demand.specs.Words.{Lowest}
 use Rattle.passing.specs.Picks.{Meets, meets-first, canRun, running-runs}
 
 -- a table that says the same of who can run and how urgent they are
-pub lowest-as : (ts ts′ : List Thread) (w : ℕ) → ((i : ℕ) → canRun ts′ i ≡ canRun ts i) → ((i : ℕ) → threadAt ts′ i .priority ≡ threadAt ts i .priority) → Lowest ts w → Lowest ts′ w
-lowest-as ts ts′ w r p h = record {
+pub lowest-as : (bs cs ts : List Thread) (w : ℕ) → ((i : ℕ) → canRun ts i ≡ canRun cs i) → ((i : ℕ) → threadAt ts i .priority ≡ threadAt bs i .priority) → Lowest bs cs w → Lowest ts ts w
+lowest-as bs cs ts w r p h = record {
   can = r w ∙ h .can;
   below = λ i e n. omega (arith, h .below i (sym (r i) ∙ e) n, p w, p i);
 }
@@ -90,7 +90,7 @@ module _ (f : ℕ → Bool) (w : ℕ) (holds : f w ≡ true) (only : (i : ℕ) �
   else-only (SomeThread i) b m e = ap SomeThread (only i m)
 
 -- ---- the first pick
-module _ (ts : List Thread) (w : ℕ) (place : w < 32) (small : threadAt ts w .priority ≤ 63) (h : Lowest ts w) where
+module _ (ts : List Thread) (w : ℕ) (place : w < 32) (small : threadAt ts w .priority ≤ 63) (h : Lowest ts ts w) where
   best-is : best ts ≡ threadAt ts w .priority
   best-is =
       omega (

@@ -8,8 +8,8 @@ use Rattle.sound.specs.View.{threadAt}
 use Rattle.pass.specs.Pick.{isRunnable}
 use Rattle.pass.specs.Schedule.{tried, schedule}
 use Rattle.timing.specs.Wait.{waitOf, Blocked, blocked-runs}
-use Rattle.timing.specs.Turn.{stays?, fateAt, tried-stays, tried-ready, tried-priority}
-use Rattle.timing.specs.Rest.{atRest, rest-runs, rest-priority, rest-wait, choose-rest}
+use Rattle.timing.specs.Turn.{stays?, fateAt, tried-stays, tried-ready}
+use Rattle.timing.specs.Rest.{atRest, rest-runs, rest-wait, choose-rest}
 
 -- ---- every thread
 module _ (k : Kernel) (tick i : ℕ) where
@@ -20,9 +20,6 @@ module _ (k : Kernel) (tick i : ℕ) where
   -- who can run after a pass is who could after its tries
   pub pass-runs : isRunnable (threadAt (schedule k tick .kernel .threads) i .status) ≡ isRunnable (threadAt (tried k tick .threads) i .status)
   pass-runs = rest-runs (threadAt (tried k tick .threads) i) (threadAt (schedule k tick .kernel .threads) i) pass-rest
-
-  pub pass-priority : threadAt (schedule k tick .kernel .threads) i .priority ≡ threadAt (k .threads) i .priority
-  pass-priority = rest-priority (threadAt (tried k tick .threads) i) (threadAt (schedule k tick .kernel .threads) i) pass-rest ∙ tried-priority k tick i
 
 -- ---- a blocked thread
 module _ (k : Kernel) (tick w : ℕ) (l : w < 32) (b : Blocked (k .threads) w) where

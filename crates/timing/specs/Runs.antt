@@ -24,7 +24,7 @@ use Rattle.timing.specs.Turn.{tried-priority}
 use Rattle.timing.specs.Rest.{rest-runs, rest-priority, mark-rest}
 use Rattle.demand.specs.Words.{Lowest}
 use Rattle.timing.specs.Lowest.{lowest-as, lowest-picked}
-use Rattle.timing.specs.Pass.{pass-runs, pass-priority}
+use Rattle.timing.specs.Pass.{pass-runs}
 use Rattle.timing.specs.Alive.{tried-live}
 
 -- ---- what a switch leaves
@@ -42,7 +42,7 @@ switch-relief k s ts relief (SomeThread c) (SomeThread n) = pick-both (λ (x : P
 
 -- ---- the thread w is the only most urgent one at a pass
 pub record Urgent (k : Kernel) (tick w : ℕ) : Type 0 where
-  pub lowest : Lowest (tried k tick .threads) w
+  pub lowest : Lowest (tried k tick .threads) (tried k tick .threads) w
   pub place : w < 32
   pub small : threadAt (k .threads) w .priority ≤ 63
 
@@ -64,11 +64,11 @@ module _ (k : Kernel) (tick w : ℕ) (u : Urgent k tick w) where
   abbrev marked : List Thread
   marked = markWaited (tried k tick .threads) (k .«current_thread»)
 
-  marked-lowest : Lowest marked w
+  marked-lowest : Lowest marked marked w
   marked-lowest =
       let ts : List Thread = tried k tick .threads in
       let e = mark-rest ts (k .«current_thread») in
-      lowest-as ts marked w (λ i. rest-runs (threadAt ts i) (threadAt marked i) (e i)) (λ i. rest-priority (threadAt ts i) (threadAt marked i) (e i)) (u .lowest)
+      lowest-as ts ts marked w (λ i. rest-runs (threadAt ts i) (threadAt marked i) (e i)) (λ i. rest-priority (threadAt ts i) (threadAt marked i) (e i)) (u .lowest)
 
   picked : pickNext marked (k .«current_thread») ≡ SomeThread w
   picked =
@@ -107,12 +107,12 @@ runs-in-two k k′ tick tick′ w u u′ r = go (relieves k tick w) refl
     go true e = inr (runs-relieved k′ tick′ w u′ (r ∙ relieved-after k tick w u e))
     go false e = inl (runs-now k tick w u e)
 
--- ---- the same read from the state that the pass leaves: a choice changes neither who can run nor a priority
-pub urgent-after : (k : Kernel) (tick w : ℕ) → Parts k → Lowest (schedule k tick .kernel .threads) w → Urgent k tick w
+-- ---- the same read from the states before and after the pass: a choice changes neither who can run nor a priority
+pub urgent-after : (k : Kernel) (tick w : ℕ) → Parts k → Lowest (k .threads) (schedule k tick .kernel .threads) w → Urgent k tick w
 urgent-after k tick w p h =
     let live : Live (k .threads) w = tried-live k tick w (sym (pass-runs k tick w) ∙ h .can) in
     record {
-      lowest = lowest-as (schedule k tick .kernel .threads) (tried k tick .threads) w (λ i. sym (pass-runs k tick i)) (λ i. tried-priority k tick i ∙ sym (pass-priority k tick i)) h;
+      lowest = lowest-as (k .threads) (schedule k tick .kernel .threads) (tried k tick .threads) w (λ i. sym (pass-runs k tick i)) (λ i. tried-priority k tick i) h;
       place = live-place k p w live;
       small = live-ok k p w live .priority;
     }

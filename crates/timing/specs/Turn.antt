@@ -28,6 +28,13 @@ stays? (Given i) = false
 stays? TimedOut = false
 stays? Slept = false
 
+-- it is given what it waits for
+abbrev pub isGiven : Fate → Bool
+isGiven Stays = false
+isGiven (Given i) = true
+isGiven TimedOut = false
+isGiven Slept = false
+
 -- ---- the tries of n threads, then of m more
 pub tries-then : (tick n m t : ℕ) (x : Waits) → tryWaits tick (n + m) t x ≡ tryWaits tick m (t + n) (tryWaits tick n t x)
 unfolding tryWaits
