@@ -89,7 +89,7 @@ entry-if : (q : Bool) (e : HandleEntry) (es : List HandleEntry) (n m : ℕ) → 
 entry-if true e es n m h = refl
 entry-if false e es n m h = h
 
-entry-is : (es : List HandleEntry) (h : ℕ) → getD es (placeOf es h) noEntry .object .0 ≡ entryOf es h
+pub entry-is : (es : List HandleEntry) (h : ℕ) → getD es (placeOf es h) noEntry .object .0 ≡ entryOf es h
 unfolding placeOf entryOf
 entry-is [] h = refl
 entry-is (e ∷ es) h = entry-if (eqb (e .handle .0) h) e es (placeOf es h) (entryOf es h) (entry-is es h)

@@ -2,7 +2,9 @@
 use mathlib.Core.Path.{_≡_}
 use mathlib.Core.Bool.{Bool, true, false}
 use mathlib.Core.List.{List, [], _∷_}
-use Prim.Native.Nat.{_<_}
+use Prim.Native.Nat.{_≤_, _<_}
+use lib.Dec.{eqb}
+use lib.ListN.{length}
 use Rattle.types.specs.declared.kernel.Kernel.{Kernel}
 use Rattle.sound.specs.Sound.{Sound}
 use Rattle.thread.specs.Threads as thread
@@ -22,14 +24,14 @@ effect (ends t) k = thread.endThread k t
 effect (calls number r words tick) k = call number k (given number r) words tick .kernel
 effect collects k = collect k
 
--- what holds of the state before an accepted operation: question 2, and question 4 of a guest call; ticks are 64-bit numbers
+-- what holds of an accepted operation and the state before it: question 2, and questions 4 and 5 of a guest call; ticks are 64-bit numbers
 abbrev pub Asked : Doing → Kernel → Type 0
 Asked (starts word) k = Unit {0}
 Asked (creates entry stack priority processor) k = Sound k
 Asked (passes tick) k = Sound k × (tick < 18446744073709551616)
 Asked looks k = Sound k
 Asked (ends t) k = Sound k
-Asked (calls number r words tick) k = Sound k × (runs? k ≡ true) × (tick < 18446744073709551616)
+Asked (calls number r words tick) k = Sound k × (runs? k ≡ true) × (tick < 18446744073709551616) × (eqb number 0x25 ≡ true → length words ≤ 8)
 Asked collects k = Sound k
 
 -- an operation that was refused left the state, and one that was accepted did what it does, on a sound state, and left one

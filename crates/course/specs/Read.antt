@@ -1,19 +1,20 @@
 -- The call table hides none of the registers that the words of the demand look at.
 use mathlib.Core.Path.{_≡_, refl, ap}
-use mathlib.Core.Bool.{Bool, true, false}
-use mathlib.Core.List.{List}
+use mathlib.Core.Bool.{Bool, true, false, not}
+use mathlib.Core.List.{List, [], _∷_, map}
 use Prim.Native.Nat.{ℕ}
 use lib.Dec.{eqb}
 use borrow.Author.Tests.{eqb-true}
 use Rattle.laws.specs.Logic.{pick, _and_, _or_}
+use Rattle.types.specs.declared.thread.AddressOption.the-variants.{SomeAddress}
 use Rattle.types.specs.declared.kernel.Kernel.{Kernel}
 use Rattle.svc.specs.declared.Registers.{Registers}
 use Rattle.svc.specs.Table.{table, rowIn, rowOf}
 use Rattle.svc.specs.Dispatch.{given}
-use Rattle.demand.specs.Words.{calls, wide, waitNanos, timedWait?, gives?, target, resets?}
+use Rattle.demand.specs.Words.{calls, wide, objects, signal, asksFor, waitNanos, timedWait?, gives?, target, resets?}
 
 -- ---- by number
-pick-read : (t : Bool) (a b c d : ℕ) → (t ≡ true → a ≡ c) → b ≡ d → pick t a b ≡ pick t c d
+pick-read : {A : Type 0} (t : Bool) (a b c d : A) → (t ≡ true → a ≡ c) → b ≡ d → pick t a b ≡ pick t c d
 pick-read true a b c d e f = e refl
 pick-read false a b c d e f = f
 
@@ -36,6 +37,14 @@ module _ (number : ℕ) (r : Registers) where
   timed-read =
       ap (λ (q : Bool). eqb number 0x0A or (eqb number 0x24 or (eqb number 0x25 or q)))
       (and-read (eqb number 0x22) _ _ (λ e. ap (λ (m : ℕ). eqb (given m r .r2) 3 or eqb (given m r .r2) 4) (eqb-true number 0x22 e)))
+
+  pub asks-read : (words : List ℕ) (name : ℕ → ℕ) → asksFor number (given number r) words name ≡ asksFor number r words name
+  unfolding rowOf rowIn table
+  asks-read words name =
+      pick-read (eqb number 0x0A) _ _ _ _ (λ e. refl)
+      (pick-read (eqb number 0x22) _ _ _ _ (λ e. ap (λ (m : ℕ). signal (SomeAddress (given m r .r1))) (eqb-true number 0x22 e))
+      (pick-read (eqb number 0x24) _ _ _ _ (λ e. ap (λ (m : ℕ). objects false (name (given m r .r0) ∷ [])) (eqb-true number 0x24 e))
+      (pick-read (eqb number 0x25) _ _ _ _ (λ e. ap (λ (m : ℕ). objects (not (eqb (given m r .r3) 0)) (map name words)) (eqb-true number 0x25 e)) refl)))
 
   module _ (words : List ℕ) (tick i : ℕ) (k : Kernel) where
     pub gives-read : gives? i (calls number (given number r) words tick) k ≡ gives? i (calls number r words tick) k

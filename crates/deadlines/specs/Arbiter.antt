@@ -121,16 +121,17 @@ free-wake (t ∷ ts) woken i zero e = pick-both (λ (x : Thread). isBlocked (x .
 free-wake (t ∷ ts) woken i (suc c) e = free-wake ts woken (suc i) c e
 
 -- ---- kind 0, through the arbiter o
+pub signal-free : (k : Kernel) (o a value c : ℕ) → Runs k c → isBlocked (threadAt (signalAddress k o a value .threads) c .status) ≡ false
+signal-free k o a value c x = free-wake (k .threads) (wokenAt (k .threads) (k .objects) o a value) 0 c (running-status (threadAt (k .threads) c .status) x)
+
 signal-effect : (k : Kernel) (o a value : ℕ) (timed : Bool) (n tick : ℕ) → Effect k (wokenAt (k .threads) (k .objects) o a value) true timed n tick (signalAddress k o a value)
 signal-effect k o a value timed n tick =
     let woken : List ℕ = wokenAt (k .threads) (k .objects) o a value in
-    let free : (c : ℕ) → Runs k c → isBlocked (threadAt (signalAddress k o a value .threads) c .status) ≡ false
-    = λ c x. free-wake (k .threads) woken 0 c (running-status (threadAt (k .threads) c .status) x) in
     record {
       waits = λ w b h e. ap waitOf (wake-no (k .threads) woken w b e);
       wakes = λ w e. wake-yes (k .threads) woken w (parked-blocked (threadAt (k .threads) w) a (woken-parked (k .threads) (k .objects) o a value w e)) e;
       parked = λ c e x b. refl;
-      wake = λ c e x b t s. false-true (sym (free c x) ∙ b);
+      wake = λ c e x b t s. false-true (sym (signal-free k o a value c x) ∙ b);
       relief = refl;
     }
 

@@ -88,7 +88,7 @@ setPriority-calm k r = priority-as (resolveThread k (r .r0)) k (r .r1)
 
 -- ---- 0x0A
 -- how long a thread ran is no part of a wait
-since-wait : (o : ThreadOption) (k : Kernel) (tick w : ℕ) → waitOf (threadAt (runsSince o k tick .threads) w) ≡ waitOf (threadAt (k .threads) w)
+pub since-wait : (o : ThreadOption) (k : Kernel) (tick w : ℕ) → waitOf (threadAt (runsSince o k tick .threads) w) ≡ waitOf (threadAt (k .threads) w)
 since-wait NoThread k tick w = refl
 since-wait (SomeThread c) k tick w = thread-f waitOf (k .threads) c _ w refl
 

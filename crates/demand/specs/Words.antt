@@ -1,8 +1,8 @@
 -- Demand 3 of document 00, in the words of document 01, about operations one after the other.
 use mathlib.Core.Path.{_≡_}
-use mathlib.Core.Bool.{Bool, true, false}
+use mathlib.Core.Bool.{Bool, true, false, not}
 use mathlib.Core.Logic.{_≢_, _⊎_}
-use mathlib.Core.List.{List, [], _∷_, _++_}
+use mathlib.Core.List.{List, [], _∷_, _++_, map}
 use Prim.Native.Nat.{ℕ, zero, suc, _+_, _-_, _*_, _/_, _≤_, _<_}
 use lib.Dec.{eqb, leb, ltb}
 use lib.ListN.{take, getD}
@@ -86,6 +86,52 @@ pub record Event : Type 0 where
   pub does : Doing
   pub after : Kernel
 
+-- ---- the object that a handle names, 0 if none
+-- 0xFFFF8000 is the current thread's and 0xFFFF8001 the process's, if there is one; any other is in the table
+unfoldable pub entryOf : List HandleEntry → ℕ → ℕ
+entryOf [] h = 0
+entryOf (e ∷ es) h = pick (eqb (e .handle .0) h) (e .object .0) (entryOf es h)
+
+abbrev pub ownObject : ThreadOption → List ObjectId → ℕ
+ownObject NoThread kept = 0
+ownObject (SomeThread t) kept = getD (ids kept) t 0
+
+abbrev pub named : ThreadOption → HandleTable → ObjectStore → ℕ → ℕ
+named c t s h = pick (eqb h 0xFFFF8000) (ownObject c (s .«thread_objects»)) (pick (eqb h 0xFFFF8001) (s .«process_object» .0) (entryOf (t .entries) h))
+
+-- ---- "what it waited for"
+pub data Awaited : Type 0 where
+  -- its time only
+  time : Awaited
+  -- all or one of a list of objects
+  objects : (all : Bool) → (list : List ℕ) → Awaited
+  -- a signal at an address
+  signal : (address : AddressOption) → Awaited
+  -- it does not wait
+  nothing : Awaited
+
+-- by the thread's record: its status, and then its list or its address
+abbrev pub awaits : ThreadStatus → Bool → List ℕ → AddressOption → Awaited
+awaits Dead all list address = nothing
+awaits Running all list address = nothing
+awaits Ready all list address = nothing
+awaits Sleeping all list address = time
+awaits WaitSync all list address = objects all list
+awaits WaitArbiter all list address = signal address
+awaits Dormant all list address = nothing
+
+abbrev pub awaitedBy : Thread → Awaited
+awaitedBy t = awaits (t .status) (t .«wait_all») (take (t .«wait_count») (ids (t .«wait_objects»))) (t .«wait_address»)
+
+-- by the call, with the object that each handle names: 0x0A its time; 0x22 a signal at the address in r1; 0x24 the object of the handle in r0;
+-- 0x25 those of the handles that it reads, in their order, all of them unless r3 is 0
+abbrev pub asksFor : ℕ → Registers → List ℕ → (ℕ → ℕ) → Awaited
+asksFor number r words name =
+    pick (eqb number 0x0A) time
+    (pick (eqb number 0x22) (signal (SomeAddress (r .r1)))
+    (pick (eqb number 0x24) (objects false (name (r .r0) ∷ []))
+    (pick (eqb number 0x25) (objects (not (eqb (r .r3) 0)) (map name words)) nothing)))
+
 -- ---- "a wait of n nanoseconds is a call 0x0A, 0x24, 0x25 or 0x22 of kind 3 or 4 that parks with that time"
 unfoldable pub waitNanos : ℕ → Registers → ℕ
 waitNanos number r =
@@ -112,6 +158,10 @@ pub record Begins (e : Event) (τ n t : ℕ) : Type 0 where
   pub from : 1 ≤ n
   pub to : n < 9223372036854775808
   pub fits : t + inTicks n < 18446744073709551616
+
+-- what that call asks for: its handles by the table that it found; the object of a pseudo-handle may be made by the call, so it is looked up after it
+abbrev pub askedFor : (e : Event) (τ n t : ℕ) → Begins e τ n t → Awaited
+askedFor e τ n t b = asksFor (b .number) (b .registers) (b .words) (named (SomeThread τ) (e .before .handles) (e .after .objects))
 
 -- ---- "nobody ends the thread or starts afresh"
 abbrev pub strikes? : ℕ → Doing → Kernel → Bool
@@ -252,11 +302,17 @@ Handed τ (e ∷ es) =
     (pass? e ≡ true → gives? τ (e .does) (e .before) ≡ true → runnable? (threadAt (e .after .threads) τ .status) ≡ true)
     × (isBlocked (threadAt (e .after .threads) τ .status) ≡ true → Handed τ es)
 
+-- as long as its wait goes on the thread waits for that
+abbrev pub Awaits : ℕ → Awaited → List Event → Type 0
+Awaits τ a [] = Unit {0}
+Awaits τ a (e ∷ es) = isBlocked (threadAt (e .after .threads) τ .status) ≡ true → (awaitedBy (threadAt (e .after .threads) τ) ≡ a) × Awaits τ a es
+
 -- "that wait ends by time-out at an operation exactly when"
-pub record OnTime (τ w : ℕ) (es : List Event) : Type 0 where
+pub record OnTime (τ w : ℕ) (a : Awaited) (es : List Event) : Type 0 where
   pub only : (i : ℕ) → TimesOut τ es i → FirstPass w es i × NotGiven τ es i
   pub must : (i : ℕ) → FirstPass w es i → NotGiven τ es i → TimesOut τ es i
   pub handed : Handed τ es
+  pub waits : Awaits τ a es
 
 -- ---- "the runnable threads at a pass are those it chooses among; the one of them that it leaves current runs at it"
 -- of the threads before and after a pass: it is runnable after it, and "has a lower priority number than every other runnable thread";
@@ -292,19 +348,7 @@ abbrev pub InTwo : ℕ → List Event → Type 0
 InTwo τ es = AtAwake τ (λ f fs. LowestAt τ f → AtNextPass (λ g. LowestAt τ g → RunsAt τ f ⊎ RunsAt τ g) fs) es
 
 -- ---- the timer grid
--- the object that a handle names, 0 if none: 0xFFFF8000 is the current thread's and 0xFFFF8001 the process's, if there is one; any other is in the table
-unfoldable pub entryOf : List HandleEntry → ℕ → ℕ
-entryOf [] h = 0
-entryOf (e ∷ es) h = pick (eqb (e .handle .0) h) (e .object .0) (entryOf es h)
-
-abbrev pub ownObject : ThreadOption → List ObjectId → ℕ
-ownObject NoThread kept = 0
-ownObject (SomeThread t) kept = getD (ids kept) t 0
-
-abbrev pub named : ThreadOption → HandleTable → ObjectStore → ℕ → ℕ
-named c t s h = pick (eqb h 0xFFFF8000) (ownObject c (s .«thread_objects»)) (pick (eqb h 0xFFFF8001) (s .«process_object» .0) (entryOf (t .entries) h))
-
--- the one that a timer call names
+-- the object that a timer call names
 abbrev pub target : Kernel → Registers → ℕ
 target k r = named (k .«current_thread») (k .handles) (k .objects) (r .r0)
 
@@ -407,9 +451,9 @@ Grid o t a b ticks (e ∷ es) =
     Left o e → OnGrid t a b (ticks ++ firedBy e) (dueAt (objectAt (e .after .objects) o)) × Grid o t a b (ticks ++ firedBy e) es
 
 -- ---- what the demand says of an operation e with those after it
--- "that wait ends by time-out at an operation exactly when .."
+-- "that wait ends by time-out at an operation exactly when ..", and it is for what the call asked for
 abbrev pub Ends : Event → List Event → Type 0
-Ends e es = (τ n t : ℕ) → Begins e τ n t → Spared τ es → OnTime τ (t + inTicks n) es
+Ends e es = (τ n t : ℕ) → (b : Begins e τ n t) → Spared τ es → (awaitedBy (threadAt (e .after .threads) τ) ≡ askedFor e τ n t b) × OnTime τ (t + inTicks n) (askedFor e τ n t b) es
 
 abbrev pub Runs : Event → List Event → Type 0
 Runs e es = (τ n t : ℕ) → Begins e τ n t → Spared τ es → InTwo τ es

@@ -1,18 +1,36 @@
 -- The operations of a list as demand 3 speaks of them.
 use mathlib.Core.Path.{_≡_, refl, ap, subst, _∙_}
-use mathlib.Core.Bool.{true, false}
+use mathlib.Core.Bool.{Bool, true, false}
 use mathlib.Core.List.{List, [], _∷_, map}
-use Prim.Native.Nat.{ℕ}
+use Prim.Native.Nat.{ℕ, _-_}
+use lib.Dec.{eqb, leb}
+use borrow.Author.Tests.{eqb-true}
+use Rattle.laws.specs.Logic.{pick, _and_}
+use Rattle.codec.specs.Bytes.{num, le}
+use Rattle.codec.specs.Layout.{decAll}
 use Rattle.block.specs.Block.{decBlock}
 use Rattle.sound.specs.Question.{sound?, t-block}
+use Rattle.svc.specs.declared.Registers.{Registers}
+use Rattle.svc.specs.Table.{table, rowIn, rowOf}
 use Rattle.svc.specs.Dispatch.{given}
 use Rattle.demand.specs.Words.{Doing, starts, creates, passes, looks, ends, calls, collects, Event}
 use Rattle.course.specs.Course.{effect, Asked, Real, Course}
 use Rattle.lent.specs.Lent.{Lent, lent, Back, accepted?}
-use Rattle.lent.specs.Guest.{registers, wordsIn}
+use Rattle.lent.specs.Guest.{wordsIn, dispatch}
 use Rattle.history.specs.Step.{Op, opFreshStart, opNextEvent, opCreateThread, opSchedule, opSatisfiedNow, opQuietRelease, opEndThread, opDispatch, opCollect, step, Entry, trace}
 use Rattle.history.specs.Keeps.{Kept, fresh-keeps, nextEvent-keeps, createThread-keeps, schedule-keeps, satisfiedNow-keeps, quietRelease-keeps, endThread-keeps}
 use Rattle.history.specs.Guests.{dispatch-keeps, collect-keeps}
+
+-- "r0 to r5 are the first six words of the lent processor"
+abbrev pub registersLent : List ℕ → Registers
+registersLent p = record { r0 = le 4 p 0; r1 = le 4 p 4; r2 = le 4 p 8; r3 = le 4 p 12; r4 = le 4 p 16; r5 = le 4 p 20 }
+
+-- the words that a call reads at r1, as they are lent: 0x25 as many as r2 says, 0x22 of kinds 1 to 4 one
+abbrev wordCount : ℕ → Registers → ℕ
+wordCount number r = pick (eqb number 0x25) (r .r2) (pick (eqb number 0x22 and (leb 1 (r .r2) and leb (r .r2) 4)) 1 0)
+
+abbrev pub wordsLent : ℕ → List ℕ → ℕ → Registers → List ℕ
+wordsLent base window number r = decAll num 4 (wordCount number r) window (r .r1 - base)
 
 -- what an operation does to the state
 abbrev pub doing : Op → Doing
@@ -23,9 +41,9 @@ doing (opSchedule bank u processor p answer v tick h) = passes tick
 doing (opSatisfiedNow handles w answer u all h tick t) = looks
 doing (opQuietRelease answer u handle h tick t) = looks
 doing (opEndThread thread h) = ends thread
--- the registers as they are lent, and the words that the call reads
+-- with the registers and words as they are lent
 doing (opDispatch bank u processor p window w base x number n tick t) =
-    calls number (registers processor) (wordsIn base window number (given number (registers processor))) tick
+    calls number (registersLent processor) (wordsLent base window number (registersLent processor)) tick
 doing (opCollect answer u) = collects
 
 -- an entry by the states that its blocks say
@@ -34,6 +52,20 @@ eventOf e = record { accepted = accepted? (e .after .number); before = decBlock 
 
 abbrev pub entry : Op → List ℕ → Entry
 entry op b = record { before = b; op = op; after = step op b }
+
+-- the call table hides neither r1 nor r2 where words are read
+words-read : (base : ℕ) (window : List ℕ) (number : ℕ) (r : Registers) → wordsIn base window number (given number r) ≡ wordsLent base window number r
+unfolding decAll rowOf rowIn table _and_
+words-read base window number r = go (eqb number 0x25) (eqb number 0x22) refl refl
+  where
+    at : ℕ → Bool → Bool → List ℕ
+    at m p q = decAll num 4 (pick p (given m r .r2) (pick (q and (leb 1 (given m r .r2) and leb (given m r .r2) 4)) 1 0)) window (given m r .r1 - base)
+
+    go : (p q : Bool) → eqb number 0x25 ≡ p → eqb number 0x22 ≡ q
+        → at number p q ≡ decAll num 4 (pick p (r .r2) (pick (q and (leb 1 (r .r2) and leb (r .r2) 4)) 1 0)) window (r .r1 - base)
+    go true q e f = ap (λ (m : ℕ). at m true q) (eqb-true number 0x25 e)
+    go false true e f = ap (λ (m : ℕ). at m false true) (eqb-true number 0x22 f)
+    go false false e f = refl
 
 -- ---- what holds of every operation
 pub record Done (d : Doing) (b : List ℕ) (r : Back) : Type 0 where
@@ -53,7 +85,13 @@ done (opSatisfiedNow handles w answer u all h tick t) b = record { with = _; blo
 done (opQuietRelease answer u handle h tick t) b = record { with = _; block = refl; kept = quietRelease-keeps handle tick (lent b [] [] [] answer) }
 done (opEndThread thread h) b = record { with = _; block = refl; kept = endThread-keeps thread (lent b [] [] [] []) }
 done (opDispatch bank u processor p window w base x number n tick t) b =
-    record { with = _; block = refl; kept = dispatch-keeps base number tick t (lent b bank processor window []) p }
+    let l : Lent = lent b bank processor window [] in
+    let r : Registers = registersLent processor in
+    record {
+      with = l;
+      block = refl;
+      kept = subst (λ (x : List ℕ). Kept (calls number r x tick) l (dispatch base number tick l)) (words-read base window number r) (dispatch-keeps base number tick t l p);
+    }
 done (opCollect answer u) b = record { with = _; block = refl; kept = collect-keeps (lent b [] [] [] answer) }
 
 module _ (op : Op) (b : List ℕ) where

@@ -122,7 +122,7 @@ dispatch-keeps base number tick t l p =
       refuses = λ k. call-refusal base (length (l .window)) number r k;
       number = λ k. accepted-is (served base number tick l k .answer) (call-answers number k r words tick);
       block = λ k. refl;
-      asked = λ k s q. (s, call-asked base (length (l .window)) number r k q .0, t);
+      asked = λ k s q. let a = call-asked base (length (l .window)) number r k q in (s, a .0, t, few-words base number (l .window) r (a .1));
       sound = λ k s q f.
           let a = call-asked base (length (l .window)) number r k q in
           call-sound number k r words tick (few-words base number (l .window) r (a .1)) (given-fits number (l .processor) p) t (a .0) s (nothing-found _ f);

@@ -4,3 +4,5 @@ pub mod Keeps
 pub mod Guests
 pub mod Events
 pub mod Demand
+pub mod Plays
+pub mod Witness
