@@ -7,7 +7,7 @@ use crate::rich::{rich, Size, ADDRESSES};
 use crate::state::{Object, State, WaitResult};
 use crate::{blocks, codec};
 use oracle::gen::Rng;
-use oracle::{Answer, Judged, Op, Oracle, Out, HANDLES, LAST_NEXT, LIST, OBJECTS, RECORDS, THREADS};
+use oracle::{accepted, Answer, Judged, Op, Oracle, Out, HANDLES, LAST_NEXT, LIST, OBJECTS, RECORDS, THREADS};
 use std::hint::black_box;
 use std::time::Instant;
 use zakuro_core::kernel::{svc, Kernel};
@@ -141,7 +141,7 @@ fn agree(x: &Operation, case: &Case) -> Result<(Oracle, String), String> {
     let Judged { answer: original, after, odd } = before.judge(&case.op);
     if let Some(odd) = odd { return Err(odd); }
     if code != original.code { return Err(format!("original {}, library {code}", original.code)); }
-    if (1..16).contains(&code) { return Err(format!("refused with {code}")); }
+    if !accepted(code) { return Err(format!("refused with {code}")); }
     if answer != (x.answer)(&original.out) { return Err(format!("original {:?}, library {answer:02x?}", original.out)); }
     if x.reads_only {
         if here != case.lent { return Err("lent memory changed".into()); }

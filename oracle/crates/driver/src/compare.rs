@@ -10,7 +10,7 @@ use crate::rich::{rich, Size};
 use crate::state::State;
 use oracle::gen::{Gen, Rng, PROFILES};
 use oracle::text::op_line;
-use oracle::{Answer, Judged, Op, Oracle, Out, CALLS};
+use oracle::{accepted, Answer, Judged, Op, Oracle, Out, CALLS};
 use std::panic::{catch_unwind, AssertUnwindSafe};
 
 /// what `compare` was asked for.
@@ -43,7 +43,7 @@ impl Run<'_> {
             if refused { Judged { answer: Answer { code: 2, out: Out::Nothing }, after: None, odd: None } } else { o.judge(op) };
         let call = if let Op::Call { num, .. } = op { CALLS.contains(num).then_some(*num) } else { None };
         self.f.add(Figure::Answered { name: x.name, call, code: expected });
-        let refusal = (1..16).contains(&code);
+        let refusal = !accepted(code);
         let after = after.map(|sys| Oracle { sys, default_status: o.status_after(op), panics: vec![] });
         let fault = if let Some(odd) = odd { odd }
             else if code != expected { format!("original {expected}, library {code}") }

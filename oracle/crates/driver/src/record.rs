@@ -15,7 +15,7 @@ use crate::lent::{Lent, BANK, CONTEXT};
 use crate::port::{Chosen, Operation, OPERATIONS};
 use crate::state::{Object, State};
 use oracle::gen::{Gen, PROFILES};
-use oracle::{dedup, Judged, Op, Oracle, Out, CALLS};
+use oracle::{accepted, dedup, Judged, Op, Oracle, Out, CALLS};
 use std::collections::{BTreeMap, BTreeSet};
 use std::fmt::Write;
 use zakuro_core::kernel::object::KObject;
@@ -141,7 +141,7 @@ fn operation(x: &Operation, op: &Op, o: &mut Oracle, lent: &mut Lent) -> Result<
     let mut library = lent.clone();
     let mut slice = vec![UNTOUCHED; x.answer_len];
     let code = (x.call)(op, &mut library, &mut slice);
-    let refused = (1..16).contains(&answer.code);
+    let refused = !accepted(answer.code);
     let expected = if refused { vec![UNTOUCHED; x.answer_len] } else { (x.answer)(&answer.out) };
     if let Some(sys) = after {
         *o = Oracle { sys, default_status: o.status_after(op), panics: vec![] };

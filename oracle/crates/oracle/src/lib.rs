@@ -74,6 +74,9 @@ pub struct Answer {
     pub out: Out,
 }
 
+/// whether an operation with this number was accepted: exactly 0 and the kernel answers. Every other number is a refusal.
+pub fn accepted(code: u32) -> bool { matches!(code, 0 | 16 | 17 | 18) }
+
 #[derive(Debug, Clone, PartialEq)]
 pub struct Holdings {
     pub threads: usize,
