@@ -187,7 +187,9 @@ uint32_t kernel_create_thread(uint8_t *block, size_t block_len, uint8_t *bank, s
 
 /* A pass: timers that are due fire, waits that are satisfied or whose time is over end, and the most urgent thread that can run
    gets the core. When it switched, the processor went to the row of the thread that left the core, if one left, and came from
-   the row of the one that got it, if one did; then the host drops any exclusive reservation.
+   the row of the one that got it, if one did. The host drops an exclusive reservation (exclusive_addr) when the answer says that
+   it switched and a thread is current. The answer does not tell the latter: kernel_collect right after the pass does, which
+   gives KERNEL_NO_THREAD if no thread is current.
    Can refuse: KERNEL_LENGTH, KERNEL_UNSOUND, KERNEL_OVERFLOW. */
 uint32_t kernel_schedule(uint8_t *block, size_t block_len, uint8_t *bank, size_t bank_len, uint8_t *processor,
                          size_t processor_len, uint8_t *answer, size_t answer_len, uint64_t tick);
