@@ -90,7 +90,7 @@ extern "C" {
 #define KERNEL_FULL 7u      /* no room for a thread, an object, a handle or an arbiter record */
 #define KERNEL_OVERFLOW 8u  /* a number would not fit its type, or the handles are used up */
 
-/* Was the operation accepted? `number` is evaluated more than once. */
+/* Was the operation accepted? Every other number is a refusal. `number` is evaluated more than once. */
 #define KERNEL_ACCEPTED(number) ((number) == KERNEL_DONE || ((number) >= KERNEL_INVALID_HANDLE && (number) <= KERNEL_INVALID_ENUM_VALUE))
 
 /* ---- What a block holds at most. */
