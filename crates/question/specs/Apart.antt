@@ -9,10 +9,12 @@ use lib.Dec.{eqb, ltb}
 use lib.ListN.{length, getD, set, length-set}
 use lib.Seq.{getD-set-same, getD-set-other}
 use borrow.Author.Tests.{ltb-true, eq-eqb, ne-eqb}
-use Rattle.laws.specs.Logic.{pick, _and_, _or_, and-true, true-and, and-end, and-assoc, false-true}
+use Rattle.laws.specs.Logic.{pick, _and_, _or_, and-true, true-and, and-end, and-false, and-assoc, false-true}
 use Rattle.laws.specs.Count.{at}
 use Rattle.laws.specs.Walk.{walk, ends?, walk-nil, walk-go}
 use Rattle.sound.specs.Records.{has?, chain?}
+use Rattle.laws.specs.Tally.{bump}
+use Rattle.question.specs.LinearObjects.{new?, lone?}
 use Rattle.question.specs.ObjectSteps.{mark-nil, mark-go}
 
 -- s has the mark that each thread was last met with
@@ -91,22 +93,39 @@ apart-chain n ts ad k (i ∷ l) s h e =
     (apart-chain n ts ad k l (marked s u k) (length-marked s u k ∙ h) (p .1)))
 
 -- ---- the returns of a function that marks a chain and its threads
-module _ (n : ℕ) (nx ts s : List ℕ) (k left h : ℕ) (b : Bool) where
-  pub code-nil : h ≡ 0 → outcome true b ≡ outcome (ends? nx left h) (b and apart? n ts s k (walk nx left h))
+module _ (nx m : List ℕ) (left h : ℕ) where
+  pub lone-nil : h ≡ 0 → lone? nx m left h ≡ true
+  unfolding new?
+  lone-nil e = true-and _ _ (sym (mark-nil nx m left h e .0)) (rw (walk-nil nx left h e))
+
+  pub lone-met : left ≢ 0 → h ≢ 0 → getD m h 0 ≢ 0 → lone? nx m left h ≡ false
+  unfolding new? _and_
+  lone-met p q f = rw (walk-go nx left h p q, ne-eqb (getD m h 0) 0 f) (and-false (ends? nx left h))
+
+  pub lone-go : left ≢ 0 → h ≢ 0 → h ≤ length nx → getD m h 0 ≡ 0
+      → lone? nx (bump 129 m h) (left - 1) (at nx h) ≡ lone? nx m left h
+  unfolding new? _and_
+  lone-go p q f z =
+      rw (walk-go nx left h p q, eq-eqb (getD m h 0) 0 z)
+      (ap (λ (t : Bool). t and new? (bump 129 m h) (walk nx (left - 1) (at nx h))) (mark-go nx m left h p q f .0))
+
+module _ (n : ℕ) (nx ts s m : List ℕ) (k left h : ℕ) (b : Bool) where
+  pub code-nil : h ≡ 0 → outcome true b ≡ outcome (lone? nx m left h) (b and apart? n ts s k (walk nx left h))
   unfolding apart?
   code-nil e =
       let f : b and apart? n ts s k (walk nx left h) ≡ b = rw (walk-nil nx left h e) (and-end b) in
-      λ i. outcome (mark-nil nx [] left h e .0 i) (sym f i)
+      λ i. outcome (sym (lone-nil nx m left h e) i) (sym f i)
 
-  pub code-open : false ≡ ends? nx left h → 0 ≡ outcome (ends? nx left h) (b and apart? n ts s k (walk nx left h))
+  pub code-open : lone? nx m left h ≡ false → 0 ≡ outcome (lone? nx m left h) (b and apart? n ts s k (walk nx left h))
   unfolding outcome
-  code-open e = ap (λ (t : Bool). outcome t (b and apart? n ts s k (walk nx left h))) e
+  code-open e = ap (λ (t : Bool). outcome t (b and apart? n ts s k (walk nx left h))) (sym e)
 
-  pub code-go : left ≢ 0 → h ≢ 0 → h ≤ length nx
-      → outcome (ends? nx (left - 1) (at nx h)) ((b and (ltb (at ts h) n and fresh? s (at ts h) k)) and apart? n ts (marked s (at ts h) k) k (walk nx (left - 1) (at nx h)))
-      ≡ outcome (ends? nx left h) (b and apart? n ts s k (walk nx left h))
+  pub code-go : left ≢ 0 → h ≢ 0 → h ≤ length nx → getD m h 0 ≡ 0
+      → outcome (lone? nx (bump 129 m h) (left - 1) (at nx h))
+      ((b and (ltb (at ts h) n and fresh? s (at ts h) k)) and apart? n ts (marked s (at ts h) k) k (walk nx (left - 1) (at nx h)))
+      ≡ outcome (lone? nx m left h) (b and apart? n ts s k (walk nx left h))
   unfolding apart?
-  code-go p q f =
+  code-go p q f z =
       let g : b and apart? n ts s k (walk nx left h) ≡ (b and (ltb (at ts h) n and fresh? s (at ts h) k)) and apart? n ts (marked s (at ts h) k) k (walk nx (left - 1) (at nx h)) =
       rw (walk-go nx left h p q) (and-assoc b _ _) in
-      λ i. outcome (mark-go nx [] left h p q f .0 i) (sym g i)
+      λ i. outcome (lone-go nx m left h p q f z i) (sym g i)

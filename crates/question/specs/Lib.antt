@@ -4,4 +4,5 @@ pub mod SameTls
 pub mod Apart
 pub mod LinearObjects
 pub mod ObjectSteps
+pub mod Lone
 pub mod Same

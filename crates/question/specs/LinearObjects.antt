@@ -111,6 +111,18 @@ endAll? nx (h ∷ hs) = ends? nx 64 h and endAll? nx hs
 abbrev pub walkAll : List ℕ → List ℕ → List (List ℕ)
 walkAll nx hs = map (walk nx 64) hs
 
+-- chains one after the other, counted in m: each ends, and has only cells that were not counted before
+unfoldable pub new? : List ℕ → List ℕ → Bool
+new? m [] = true
+new? m (i ∷ l) = eqb (getD m i 0) 0 and new? (bump 129 m i) l
+
+abbrev pub lone? : List ℕ → List ℕ → ℕ → ℕ → Bool
+lone? nx m left h = ends? nx left h and new? m (walk nx left h)
+
+unfoldable pub loneAll? : List ℕ → List ℕ → List ℕ → Bool
+loneAll? nx m [] = true
+loneAll? nx m (h ∷ hs) = lone? nx m 64 h and loneAll? nx (tally 129 m (walk nx 64 h)) hs
+
 -- each of the cells 1 to n of m is 1
 unfoldable pub onceAll? : List ℕ → ℕ → Bool
 onceAll? m n = allTo n (λ i. eqb (getD m i 0) 1)
@@ -122,14 +134,8 @@ sharedOut? nx hs free =
 unfoldable pub chainsBy? : List ℕ → List ℕ → List ℕ → ℕ → List ℕ → ℕ → Bool
 chainsBy? nx ts ad n hs k = allTo k (λ o. chain? ts ad n (walk nx 64 (at hs o)))
 
--- every chain ends and is fine
-unfoldable pub chainAll? : List ℕ → List ℕ → List ℕ → ℕ → List ℕ → Bool
-chainAll? nx ts ad n [] = true
-chainAll? nx ts ad n (h ∷ hs) = (ends? nx 64 h and chain? ts ad n (walk nx 64 h)) and chainAll? nx ts ad n hs
-
 unfoldable pub finePool? : List ℕ → List ℕ → List ℕ → ℕ → List ℕ → ℕ → Bool
-finePool? nx ts ad n hs free =
-    chainAll? nx ts ad n hs and (ends? nx 64 free and onceAll? (tally 129 (tallyAll 129 (replicate 129 0) (walkAll nx hs)) (walk nx 64 free)) 64)
+finePool? nx ts ad n hs free = sharedOut? nx hs free and chainsBy? nx ts ad n hs 128
 
 unfoldable pub recordsBy? : ℕ → List ℕ → List Waiter → ℕ → Bool
 recordsBy? n hs w free =

@@ -10,7 +10,7 @@ use lib.Dec.{eqb, leb}
 use lib.ListN.{length, getD, set, drop, drop-of-length-le, List·getD-map}
 use lib.Seq.{drop-cons}
 use borrow.Author.Tests.{eq-eqb, ne-eqb, le-leb, lt-leb, le-ltb, lt-ltb}
-use Rattle.laws.specs.Logic.{_and_, _or_, and-false, and-assoc, and-end}
+use Rattle.laws.specs.Logic.{_and_, _or_, and-false, and-assoc, and-end, true-and}
 use Rattle.laws.specs.Count.{at}
 use Rattle.laws.specs.StoreTest.{at-out}
 use Rattle.laws.specs.Walk.{walk, ends?, walk-zero, walk-nil, walk-out, walk-go}
@@ -22,7 +22,7 @@ use Rattle.sound.specs.View.{ids, noSlot, slotAt-pos}
 use Rattle.sound.specs.Objects.{upTo128}
 use Rattle.sound.specs.Records.{has?, chain?, blanks?}
 use Rattle.question.specs.Linear.{slot?, slots?}
-use Rattle.question.specs.LinearObjects.{keptThread?, indexed, keptThreads?, contentBy?, contentsBy?, onceAll?, chainAll?}
+use Rattle.question.specs.LinearObjects.{keptThread?, indexed, keptThreads?, contentBy?, contentsBy?, onceAll?, chainsBy?, lone?, loneAll?}
 
 -- ---- cells and walks
 pub at-cell : (l : List ℕ) (r : ℕ) → r ≢ 0 → at l r ≡ getD l (r - 1) 0
@@ -169,15 +169,32 @@ unfolding keptThreads?
 kept-end ks us k t h = allTo-end _ t h
 
 -- ---- records
-module _ (nx ts ad : List ℕ) (n : ℕ) (hs : List ℕ) (i : ℕ) where
-  pub chains-more : (b : Bool) → i < length hs
-      → b and chainAll? nx ts ad n (drop i hs) ≡ (b and (ends? nx 64 (getD hs i 0) and chain? ts ad n (walk nx 64 (getD hs i 0)))) and chainAll? nx ts ad n (drop (i + 1) hs)
-  unfolding chainAll?
-  chains-more b h = rw (drop-cons hs i 0 h, add-one) (and-assoc b _ _)
+module _ (nx ts ad : List ℕ) (n : ℕ) (hs : List ℕ) where
+  pub chains-step : (o : ℕ) → 0 < o
+      → chainsBy? nx ts ad n hs o ≡ chain? ts ad n (walk nx 64 (getD hs (o - 1) 0)) and chainsBy? nx ts ad n hs (o - 1)
+  unfolding chainsBy?
+  chains-step o h = allTo-step _ o h ∙ rw (at-cell hs o (omega arith))
 
-  pub chains-none : (b : Bool) → length hs ≤ i → b and chainAll? nx ts ad n (drop i hs) ≡ b
-  unfolding chainAll?
-  chains-none b h = rw (drop-of-length-le hs h) (and-end b)
+  pub chains-next : (i : ℕ) → chain? ts ad n (walk nx 64 (getD hs i 0)) ≡ true → chainsBy? nx ts ad n hs i ≡ true
+      → chainsBy? nx ts ad n hs (i + 1) ≡ true
+  chains-next i c e =
+      let z : i + 1 - 1 ≡ i = omega arith in
+      chains-step (i + 1) (omega arith) ∙ rw z (true-and _ _ c e)
+
+  pub chains-end : (o : ℕ) → o ≤ 0 → chainsBy? nx ts ad n hs o ≡ true
+  unfolding chainsBy?
+  chains-end o h = allTo-end _ o h
+
+module _ (nx m hs : List ℕ) (i : ℕ) where
+  pub lone-more : i < length hs
+      → loneAll? nx m (drop i hs)
+      ≡ lone? nx m 64 (getD hs i 0) and loneAll? nx (tally 129 m (walk nx 64 (getD hs i 0))) (drop (i + 1) hs)
+  unfolding loneAll?
+  lone-more h = rw (drop-cons hs i 0 h, add-one)
+
+  pub lone-none : length hs ≤ i → loneAll? nx m (drop i hs) ≡ true
+  unfolding loneAll?
+  lone-none h = rw (drop-of-length-le hs h)
 
 pub once-step : (m : List ℕ) (i : ℕ) → 0 < i → onceAll? m i ≡ eqb (getD m i 0) 1 and onceAll? m (i - 1)
 unfolding onceAll?

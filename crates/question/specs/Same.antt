@@ -39,7 +39,7 @@ use Rattle.tally.specs.Lists as list
 use Rattle.tally.specs.Lists.{Eight, nameOf, handleNames, listNames}
 use Rattle.question.specs.Linear.{slot?, slots?}
 use Rattle.tally.specs.Place.{slotIndex}
-use Rattle.question.specs.LinearObjects.{namedOf, named, countsOf, marksOf, keptThread?, keptProcess?, indexed, keptThreads?, keptBy?, objectsBy?, deadMark, deadMarks, live?, ownerBy?, contentBy?, contentsBy?, endAll?, walkAll, onceAll?, sharedOut?, chainsBy?, chainAll?, finePool?, recordsBy?, tables?, store?}
+use Rattle.question.specs.LinearObjects.{namedOf, named, countsOf, marksOf, keptThread?, keptProcess?, indexed, keptThreads?, keptBy?, objectsBy?, deadMark, deadMarks, live?, ownerBy?, contentBy?, contentsBy?, endAll?, walkAll, onceAll?, sharedOut?, chainsBy?, finePool?, recordsBy?, tables?, store?}
 
 -- ---- a number that names no object is counted nowhere
 module _ (o : ℕ) (p : 0 < o) (q : o ≤ 128) where
@@ -259,65 +259,13 @@ module _ (nx : List ℕ) (n : length nx ≡ 64) where
         rw (n, walks-same hs, ends-same hs)
         (ap (λ (b : Bool). endAll? nx hs and (ends? nx 64 free and b)) (allTo-same 64 _ _ (λ i a b. ap (λ (k : ℕ). eqb k 1) (once-get i b))))
 
--- the chains one after the other, as ends and pairs apart
-and-swap : (a b c : Bool) → a and (b and c) ≡ b and (a and c)
-unfolding _and_
-and-swap true b c = refl
-and-swap false true c = refl
-and-swap false false c = refl
-
-first-last : (m : ℕ) (p : ℕ → Bool) → allTo (suc m) p ≡ p (suc zero) and allTo m (λ o. p (suc o))
-unfolding allTo
-first-last zero p = refl
-first-last (suc m) p = ap (λ (t : Bool). p (suc (suc m)) and t) (first-last m p) ∙ and-swap (p (suc (suc m))) (p (suc zero)) (allTo m (λ o. p (suc o)))
-
-and-mix : (a b c d : Bool) → (a and b) and (c and d) ≡ (a and c) and (b and d)
-unfolding _and_
-and-mix true b c d = and-swap b c d
-and-mix false b c d = refl
-
-and-last : (a b c d : Bool) → ((a and b) and c) and d ≡ (a and c) and (b and d)
-unfolding _and_
-and-last true true c d = refl
-and-last true false true d = refl
-and-last true false false d = refl
-and-last false b c d = refl
-
-at-next : (h : ℕ) (hs : List ℕ) (o : ℕ) → 0 < o → at hs o ≡ at (h ∷ hs) (suc o)
-unfolding at
-at-next h hs zero p = absurd (omega arith)
-at-next h hs (suc o) p = refl
-
-chains-apart : (nx ts ad : List ℕ) (n : ℕ) (hs : List ℕ) → chainAll? nx ts ad n hs ≡ endAll? nx hs and chainsBy? nx ts ad n hs (length hs)
-unfolding chainAll? endAll? chainsBy? allTo at _and_
-chains-apart nx ts ad n [] = refl
-chains-apart nx ts ad n (h ∷ hs) =
-    let E = ends? nx 64 h in
-    let C = chain? ts ad n (walk nx 64 h) in
-    let p : ℕ → Bool = λ o. chain? ts ad n (walk nx 64 (at (h ∷ hs) o)) in
-    let r : chainsBy? nx ts ad n hs (length hs) ≡ allTo (length hs) (λ o. p (suc o)) =
-    allTo-same (length hs) _ _ (λ o a b. ap (λ (x : ℕ). chain? ts ad n (walk nx 64 x)) (at-next h hs o a)) in
-    ap (λ (t : Bool). (E and C) and t) (chains-apart nx ts ad n hs)
-    ∙ and-mix E C (endAll? nx hs) (chainsBy? nx ts ad n hs (length hs))
-    ∙ ap (λ (t : Bool). (E and endAll? nx hs) and (C and t)) r
-    ∙ ap (λ (t : Bool). (E and endAll? nx hs) and t) (sym (first-last (length hs) p))
-
-records-apart : (n : ℕ) (hs : List ℕ) (w : List Waiter) (free : ℕ) → length hs ≡ 128
-    → recordsBy? n hs w free
-    ≡ sharedOut? (waiterNexts w) hs free
-    and (chainsBy? (waiterNexts w) (waiterThreads w) (waiterAddresses w) n hs 128
-    and blanks? (waiterThreads w) (waiterAddresses w) (walk (waiterNexts w) 64 free))
-unfolding recordsBy? finePool? sharedOut?
-records-apart n hs w free e =
-    rw (chains-apart (waiterNexts w) (waiterThreads w) (waiterAddresses w) n hs, e) (and-last _ _ _ _)
-
 pub records-same : (n : ℕ) (s : ObjectStore) → length (s .slots) ≡ 128 → length (s .waiters) ≡ 64
     → recordsBy? n (heads (s .slots)) (s .waiters) (s .«free_waiter») ≡ records? n s
-unfolding records? chained? chainsBy?
+unfolding records? chained? chainsBy? recordsBy? finePool?
 records-same n s a b =
     let ln : length (waiterNexts (s .waiters)) ≡ 64 = length-map (s .waiters) (λ (w : Waiter). w .next) ∙ b in
     let lh : length (heads (s .slots)) ≡ 128 = length-map (s .slots) (λ (x : Slot). headOf (x .object)) ∙ a in
-    records-apart n (heads (s .slots)) (s .waiters) (s .«free_waiter») lh
+    sym (and-assoc _ _ _)
     ∙ rw (shared-same (waiterNexts (s .waiters)) ln (heads (s .slots)) lh (s .«free_waiter»))
     (ap (λ (t : Bool). pool? (waiterNexts (s .waiters)) (heads (s .slots)) (s .«free_waiter») and (t and blanks? (waiterThreads (s .waiters)) (waiterAddresses (s .waiters)) (freeChain s)))
     (allTo-same 128 _ _ (λ o p q.

@@ -1,13 +1,17 @@
 // Chain walks, by recursion with a falling allowance, so that a damaged chain ends too. A chain goes over the first n of 128
 // numbers: references to arrays are handed on in registers, so that a walk is compiled to a loop.
 ghost use mathlib.Core.Path.{_≡_};
-ghost use Prim.Native.Nat.{_-_, _<_, _≤_};
+ghost use mathlib.Core.Bool.{true, false};
+ghost use mathlib.Core.Logic.{_≢_};
+ghost use mathlib.Core.List.{List};
+ghost use Prim.Native.Nat.{ℕ, _-_, _<_, _≤_};
 ghost use lib.ListN.{length, take};
 ghost use Rattle.laws.specs.Logic.{_and_};
 ghost use Rattle.laws.specs.Count as cells;
 ghost use Rattle.laws.specs.Walk.{walk, ends?};
 ghost use Rattle.laws.specs.Tally.{tally};
 ghost use Rattle.sound.specs.Records.{has?, chain?, blanks?};
+ghost use Rattle.question.specs.LinearObjects.{lone?};
 ghost use Rattle.question.specs.Apart.{fresh?, marked, apart?, outcome};
 
 pub fn both(a: bool, b: bool) -> bool
@@ -71,7 +75,11 @@ fn fresh(seen: &mut [u32; 32], t: u32, mark: u32) -> bool
     true
 }
 
-// As mark_chain, over 64 records: 0 if the chain does not end, 1 if its threads are below n and none of them had the mark, else 2.
+// Marks in m those of the 64 records that the chain from at has: 0 if it does not end or has one that is marked
+// already, 1 if apart, and its threads are below n and none of them had the mark, else 2. The first fault ends the
+// walk, so all walks over the same m together step on a record at most once.
+// m after 0 is left open, since it is not read then. What seen has is left open, since it only tells 1 from 2, and
+// after 2 pairs are compared.
 fn mark_apart<'a>(
     nx: &'a [u32; 128],
     ts: &'a [u32; 128],
@@ -85,8 +93,8 @@ fn mark_apart<'a>(
 ) -> u32
     requires { ⌜ length (take 64 (now nx)) ≡ 64 ⌝ }
     requires { ⌜ length (now seen) ≡ 32 ⌝ }
-    ensures { λ r. ⌜ r ≡ outcome (ends? (take 64 (now (nx .entry))) left at) (apart and apart? n (take 64 (now (ts .entry))) (now (seen .entry)) mark (walk (take 64 (now (nx .entry))) left at)) ⌝ }
-    ensures { λ _. ⌜ now (m .exit) ≡ tally 129 (now (m .entry)) (walk (take 64 (now (nx .entry))) left at) ⌝ }
+    ensures { λ r. ⌜ r ≡ outcome (lone? (take 64 (now (nx .entry))) (now (m .entry)) left at) (apart and apart? n (take 64 (now (ts .entry))) (now (seen .entry)) mark (walk (take 64 (now (nx .entry))) left at)) ⌝ }
+    ensures { λ r. ⌜ (r ≢ 0 → now (m .exit) ≡ tally 129 (now (m .entry)) (walk (take 64 (now (nx .entry))) left at)) ⌝ }
     ensures { λ _. ⌜ length (now (seen .exit)) ≡ 32 ⌝ }
 {
     if at == 0 {
@@ -98,15 +106,46 @@ fn mark_apart<'a>(
     if left == 0 {
         return 0;
     }
-    tally::bump_at(m, at);
     if 64 < at {
         return 0;
     }
+    if m[at as usize] != 0 {
+        return 0;
+    }
+    tally::bump_at(m, at);
     let t = cell(ts, 64, at);
     let alone = fresh(seen, t, mark);
     let still = both(apart, both(t < n, alone));
     let next = cell(nx, 64, at);
     mark_apart(nx, ts, m, seen, mark, n, next, left - 1, still)
+}
+
+// mark_apart for the chain from h, which may be 0. found is what the chains before gave, 1 or 2, and 2 stays.
+// m and seen are left open as there, and so is what a chain that gives 2 has.
+pub fn mark_head<'a>(
+    nx: &'a [u32; 128],
+    ts: &'a [u32; 128],
+    m: &mut [u32; 129],
+    seen: &mut [u32; 32],
+    mark: u32,
+    n: u32,
+    h: u32,
+    found: u32,
+) -> u32
+    requires { ⌜ length (take 64 (now nx)) ≡ 64 ⌝ }
+    requires { ⌜ length (now seen) ≡ 32 ⌝ }
+    requires { ⌜ 0 < found ⌝ }
+    ensures { λ r. ⌜ (r ≡ 0 → lone? (take 64 (now (nx .entry))) (now (m .entry)) 64 h ≡ false) ⌝ }
+    ensures { λ r. ⌜ (r ≢ 0 → lone? (take 64 (now (nx .entry))) (now (m .entry)) 64 h ≡ true) ⌝ }
+    ensures { λ r. ⌜ (r ≢ 0 → now (m .exit) ≡ tally 129 (now (m .entry)) (walk (take 64 (now (nx .entry))) 64 h)) ⌝ }
+    ensures { λ r. ⌜ (r ≡ 1 → found ≡ 1) ⌝ }
+    ensures { λ r. ⌜ (r ≡ 1 → ((ad : List ℕ) → chain? (take 64 (now (ts .entry))) ad n (walk (take 64 (now (nx .entry))) 64 h) ≡ true)) ⌝ }
+    ensures { λ _. ⌜ length (now (seen .exit)) ≡ 32 ⌝ }
+{
+    if h == 0 {
+        return found;
+    }
+    mark_apart(nx, ts, m, seen, mark, n, h, 64, found == 1)
 }
 
 // Whether a record of the chain from at is that of thread t and address a.
@@ -136,7 +175,7 @@ fn has_record<'a>(
 }
 
 // Whether the records of the chain from at name threads below n, and no thread and address twice.
-fn chain_ok<'a>(
+pub fn chain_ok<'a>(
     nx: &'a [u32; 128],
     ts: &'a [u32; 128],
     ad: &'a [u32; 128],
@@ -161,37 +200,6 @@ fn chain_ok<'a>(
         return false;
     }
     chain_ok(nx, ts, ad, n, next, left - 1)
-}
-
-// Whether the chain from h ends, names threads below n, and no thread and address twice; one more in m for each record that it
-// has. Records of different threads differ: only a chain that has a thread twice is looked through pair by pair.
-pub fn chain_fine<'a>(
-    nx: &'a [u32; 128],
-    ts: &'a [u32; 128],
-    ad: &'a [u32; 128],
-    m: &mut [u32; 129],
-    seen: &mut [u32; 32],
-    mark: u32,
-    n: u32,
-    h: u32,
-) -> bool
-    requires { ⌜ length (take 64 (now nx)) ≡ 64 ⌝ }
-    requires { ⌜ length (now seen) ≡ 32 ⌝ }
-    ensures { λ r. ⌜ r ≡ (ends? (take 64 (now (nx .entry))) 64 h and chain? (take 64 (now (ts .entry))) (take 64 (now (ad .entry))) n (walk (take 64 (now (nx .entry))) 64 h)) ⌝ }
-    ensures { λ _. ⌜ now (m .exit) ≡ tally 129 (now (m .entry)) (walk (take 64 (now (nx .entry))) 64 h) ⌝ }
-    ensures { λ _. ⌜ length (now (seen .exit)) ≡ 32 ⌝ }
-{
-    if h == 0 {
-        return true;
-    }
-    let found = mark_apart(nx, ts, m, seen, mark, n, h, 64, true);
-    if found == 0 {
-        return false;
-    }
-    if found == 1 {
-        return true;
-    }
-    chain_ok(nx, ts, ad, n, h, 64)
 }
 
 // Whether the records of the chain from at are blank.

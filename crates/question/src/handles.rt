@@ -39,7 +39,7 @@ fn count_at(c: &mut [u32; 129], o: u32)
 }
 
 // count handles in rising order from 0x10000, the last below next, each of an object number, and zeros; one more in c for the
-// object of each.
+// object of each. If not, c is left open: the block is refused then, and c is not read.
 pub fn handles_ok(b: &[u8], c: &mut [u32; 129], count: u32, next: u32) -> bool
     requires { ⌜ length (now b) ≡ 16384 ⌝ }
     requires { ⌜ now c ≡ replicate 129 0 ⌝ }

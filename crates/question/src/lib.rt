@@ -20,7 +20,8 @@ ghost use Rattle.sound.specs.Sound.{state?};
 ghost use Rattle.tally.specs.Lists.{names, handleNames, listNames};
 ghost use Rattle.question.specs.LinearObjects.{tables?, store?};
 
-// Threads, TLS slots and handles; one more in c for each object that a handle or a list names.
+// Threads, TLS slots and handles; one more in c for each object that a handle or a list names. If they are not sound, c
+// is left open: the block is refused then, and c is not read.
 fn tables_ok(b: &[u8], c: &mut [u32; 129]) -> bool
     requires { ⌜ length (now b) ≡ 16384 ⌝ }
     requires { ⌜ now c ≡ replicate 129 0 ⌝ }
@@ -42,7 +43,8 @@ fn tables_ok(b: &[u8], c: &mut [u32; 129]) -> bool
     tls::tls_ok(b, q.0)
 }
 
-// Objects, what they name, and records of arbiters, where c has the names of handles and of lists.
+// Objects, what they name, and records of arbiters, where c has the names of handles and of lists. c afterwards is left
+// open, since it is not read any more.
 fn store_ok(b: &[u8], c: &mut [u32; 129]) -> bool
     requires { ⌜ length (now b) ≡ 16384 ⌝ }
     ensures { λ r. ⌜ r ≡ store? (decBlock (now (b .entry))) (bump 129 (tally 129 (now (c .entry)) (names (keptIn (now (b .entry))))) (decBlock (now (b .entry)) .objects .«process_object» .0)) ⌝ }
