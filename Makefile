@@ -2,6 +2,7 @@
 # make test        prove everything, then all C tests that need no original
 # make demo        three guest programs on a simulated clock; prints their timeline
 # make growth      how the time of a call grows with threads, objects and handles
+# make hostile     how long question 2 takes on blocks made to be slow, beside the slowest sound one
 # make differential, record, flips, bench, bench-original, profile     need cargo and ORIGINAL, a copy of the original's source
 CC = gcc
 CFLAGS = -std=c11 -O2 -Wall -Wextra -Iinclude
@@ -27,6 +28,7 @@ HOST = host check lent fault exports fresh_block made_block guest_call fresh_sta
 FLIPS = flips rules fresh_block
 BENCH = bench/bench bench/clock bench/host bench/guest_calls bench/stack tests/made_block tests/fresh_block
 GROWTH = bench/growth bench/clock bench/host tests/made_block tests/fresh_block
+HOSTILE = bench/hostile bench/clock bench/host tests/made_block tests/fresh_block
 
 all: host-test
 
@@ -61,6 +63,10 @@ bench: $(C)/bench blocks
 # how the time grows with threads, objects and handles
 growth: $(C)/growth
 	$(C)/growth
+
+# question 2 on blocks made to be slow; fails only by an answer
+hostile: $(C)/hostile
+	$(C)/hostile
 
 bench-original: original $(KERNEL_LIB)
 	$(BUILD) --profile timed -p driver
@@ -101,6 +107,9 @@ $(C)/bench: $(BENCH:%=$(C)/obj/%.o) $(KERNEL_LIB)
 $(C)/growth: $(GROWTH:%=$(C)/obj/%.o) $(KERNEL_LIB)
 	$(CC) -o $@ $^
 
+$(C)/hostile: $(HOSTILE:%=$(C)/obj/%.o) $(KERNEL_LIB)
+	$(CC) -o $@ $^
+
 $(C)/pass: $(C)/obj/bench/pass.o $(KERNEL_LIB)
 	$(CC) -o $@ $^
 
@@ -114,4 +123,4 @@ $(C)/obj/%.o: %.c $(wildcard include/*.h tests/*.h bench/*.h)
 clean:
 	rm -rf target oracle/target
 
-.PHONY: all test staticlib host-test demo flip-fresh flips bench growth bench-original profile original oracle differential record blocks clean
+.PHONY: all test staticlib host-test demo flip-fresh flips bench growth hostile bench-original profile original oracle differential record blocks clean

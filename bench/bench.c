@@ -1,6 +1,7 @@
 /*
- * Times every export, kernel_dispatch with each guest call, on a fresh block and on given ones beside a plain copy of 16,384 bytes, and
- * measures the stack that each takes; then the most of each export, beside what its code can take at most.
+ * Times every export, kernel_dispatch with each guest call, on a fresh block and on given ones beside a plain copy of 16,384 bytes,
+ * and kernel_next_event on a block that is refused, and measures the stack that each takes; then the most of each export, beside
+ * what its code can take at most.
  * Usage: bench FRAMES-FILE BLOCK-FILE..
  */
 #include "../tests/layout.h"
@@ -140,6 +141,19 @@ static void measure(const char *what)
     }
 }
 
+static void refused(void)
+{
+    must(next_event() == KERNEL_UNSOUND, "shared", "not refused as unsound");
+}
+
+/* A block that question 2 refuses. */
+static void measure_refused(void)
+{
+    double one_copy = microseconds(copy), us = microseconds(refused);
+    size_t stack = stack_used(refused);
+    printf("%-31s %-6s %10.3f us %8.1f copies %10zu bytes of stack\n", "kernel_next_event, refused", "shared", us, us / one_copy, stack);
+}
+
 /* The line of an export in the file that frames.sh wrote. */
 static size_t frames_of(const char *file, const char *name)
 {
@@ -205,6 +219,8 @@ int main(int argc, char **argv)
     measure("open");
     listed_chain();
     measure("listed");
+    shared_chain();
+    measure_refused();
     for (int i = 2; i < argc; i++) {
         FILE *in = fopen(argv[i], "rb");
         if (!in || fread(original, 1, sizeof original, in) != sizeof original) {

@@ -89,3 +89,14 @@ void listed_chain(void)
 {
     wait_on(original, thread_at(2), long_chain());
 }
+
+void shared_chain(void)
+{
+    running_block(original);
+    for (uint32_t i = 0; i < OBJECTS; i++)
+        add_handle(original, add_object(original, ARBITER));
+    for (uint32_t i = 0; i < RECORDS; i++)
+        add_record(original, 1, 0, 4 * i);
+    for (uint32_t arbiter = 2; arbiter <= OBJECTS; arbiter++)
+        put32(original, slot_at(arbiter) + A, get32(original, slot_at(1) + A));
+}

@@ -21,4 +21,7 @@ int prepare(void);
 void open_chain(void);
 void listed_chain(void);
 
+/* Makes `original` a block whose 128 arbiters all have the same chain of 64 records, which is not sound. */
+void shared_chain(void);
+
 #endif
