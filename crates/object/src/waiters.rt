@@ -339,7 +339,7 @@ pub fn hang(ws: [Waiter; 64], last: u32, r: u32, w: Waiter) -> [Waiter; 64]
     put_waiter(l, r, w)
 }
 
-// Whether a chain has a record already, and its last record, 0 if it has none.
+// Whether a chain has a record already; if not, its last record, 0 if it has none.
 pub struct ChainEnd {
     pub has: bool,
     pub last: u32,
@@ -348,7 +348,7 @@ pub struct ChainEnd {
 // The end of the chain from head, for a record of thread t and address a.
 pub fn chain_end(ws: [Waiter; 64], head: u32, t: u32, a: u32) -> ChainEnd
     ensures { λ r. ⌜ r .has ≡ chains.has? (waiterThreads ws) (waiterAddresses ws) t a (walk (waiterNexts ws) 64 head) ⌝ }
-    ensures { λ r. ⌜ ((r .has ≡ false) → r .last ≡ def.lastOf (walk (waiterNexts ws) 64 head)) ⌝ }
+    ensures { λ r. ⌜ r .last ≡ pick (r .has) 0 (def.lastOf (walk (waiterNexts ws) 64 head)) ⌝ }
 {
     if head == 0 {
         return ChainEnd {

@@ -1,5 +1,6 @@
 use mathlib.Core.Path.{sym, _∙_}
 use borrow.Author.Tests.{not-true, not-false}
+use Rattle.laws.specs.Logic.{pick-no}
 use Rattle.arbiter_calls.proofs.Records.{waiters-are, place-other, place-has, place-new}
 use borrow.Author.Needs.{needs}
 use Rattle.arbiter_calls.proofs.record.place_for.Statement.{statement}
@@ -33,7 +34,7 @@ returns-3 : tie.Need-returns-3
 returns-3 c = let a = c .before .before .before .before .before .before .before .before .args in
     place-new _ (a .o .0) (a .t) (a .a) (rw (c .before .before .before .before .before .before .slot-at .ensures) at (sym (c .before .before .before .before .before .is-arbiter .ensures) ∙ not-false _ (c .before .before .before .before .if1 .left)))
     (rw (c .before .before .head-of .ensures, c .before .before .before .before .before .before .slot-at .ensures, c .before .before .before .get-waiters .ensures ∙ waiters-are (a .block .now)) at (sym (c .before .chain-end .ensures .0) ∙ c .if2 .left))
-    _ (rw (c .before .before .head-of .ensures, c .before .before .before .before .before .before .slot-at .ensures, c .before .before .before .get-waiters .ensures ∙ waiters-are (a .block .now)) at (c .before .chain-end .ensures .1 (c .if2 .left)))
+    _ (rw (c .before .before .head-of .ensures, c .before .before .before .before .before .before .slot-at .ensures, c .before .before .before .get-waiters .ensures ∙ waiters-are (a .block .now)) at (c .before .chain-end .ensures .1 ∙ pick-no _ _ _ (c .if2 .left)))
 
 pub place-for-spec : {M : Type 1} → statement M
 place-for-spec =
