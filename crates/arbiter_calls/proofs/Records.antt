@@ -5,7 +5,7 @@ use mathlib.Core.List.{List}
 use Prim.Native.Nat.{ℕ}
 use lib.Dec.{eqb}
 use lib.ListN.{length}
-use Rattle.laws.specs.Logic.{pick, _and_, false-true}
+use Rattle.laws.specs.Logic.{pick, _and_, pick-yes, false-true}
 use Rattle.codec.specs.Bytes.{over}
 use Rattle.codec.specs.Layout.{encAll, decAll}
 use Rattle.types.specs.declared.object.Slot.{Slot}
@@ -26,7 +26,7 @@ use Rattle.svc.specs.Call.{withObjects}
 use Rattle.rows.specs.Rows.{slotPut, headPut}
 use Rattle.rows.specs.Holds.{Holds, put-slot, put-waiters, put-head}
 use Rattle.arbiter_calls.specs.declared.record.Room.{Room}
-use Rattle.arbiter_calls.specs.Record.{Place}
+use Rattle.arbiter_calls.specs.Record.{placeFor}
 
 -- the records, as they are read
 pub waiters-are : (b : List ℕ) → decAll decWaiter 12 64 b 12416 ≡ decBlock b .objects .waiters
@@ -35,18 +35,18 @@ waiters-are b = refl
 
 -- ---- where the record goes
 module _ (s : ObjectStore) (o t a : ℕ) where
-  pub place-other : isArbiter (objectAt s o) ≡ false → Place s o t a (record { stores = false; last = 0 })
+  pub place-other : isArbiter (objectAt s o) ≡ false → record { stores = false; last = 0 } ≡ placeFor s o t a
   unfolding _and_
-  place-other e = record { some = rw e; behind = λ z. false-true z }
+  place-other e = rw e
 
   module _ (e : isArbiter (objectAt s o) ≡ true) where
-    pub place-has : has? (waiterThreads (s .waiters)) (waiterAddresses (s .waiters)) t a (chainOf s o) ≡ true → Place s o t a (record { stores = false; last = 0 })
+    pub place-has : has? (waiterThreads (s .waiters)) (waiterAddresses (s .waiters)) t a (chainOf s o) ≡ true → record { stores = false; last = 0 } ≡ placeFor s o t a
     unfolding _and_
-    place-has f = record { some = rw (e, f); behind = λ z. false-true z }
+    place-has f = rw (e, f)
 
-    pub place-new : has? (waiterThreads (s .waiters)) (waiterAddresses (s .waiters)) t a (chainOf s o) ≡ false → (last : ℕ) → last ≡ lastOf (chainOf s o) → Place s o t a (record { stores = true; last = last })
+    pub place-new : has? (waiterThreads (s .waiters)) (waiterAddresses (s .waiters)) t a (chainOf s o) ≡ false → (last : ℕ) → last ≡ lastOf (chainOf s o) → record { stores = true; last = last } ≡ placeFor s o t a
     unfolding _and_
-    place-new f last l = record { some = rw (e, f); behind = λ _. l }
+    place-new f last l = rw (e, f, l)
 
 -- ---- by whether one is stored
 pub held-as : (b : List ℕ) (k : Kernel) (x y : ObjectStore) → x ≡ y → Holds b (withObjects k x) → Holds b (withObjects k y)
@@ -71,14 +71,17 @@ module _ (s : ObjectStore) (o t a : ℕ) where
   abbrev has : Bool
   has = has? (waiterThreads (s .waiters)) (waiterAddresses (s .waiters)) t a (chainOf s o)
 
-  module _ (r : Room) (p : Place s o t a r) where
+  module _ (r : Room) (p : r ≡ placeFor s o t a) where
+    pub place-last : r .stores ≡ true → r .last ≡ lastOf (chainOf s o)
+    place-last e = ap (λ (x : Room). x .last) p ∙ pick-yes _ _ _ (sym (ap (λ (x : Room). x .stores) p) ∙ e)
+
     pub push-kept : r .stores ≡ false → s ≡ push s o t a
     unfolding push
-    push-kept e = kept-as arbiter has s (pushed s o t a) (sym (p .some) ∙ e)
+    push-kept e = kept-as arbiter has s (pushed s o t a) (sym (ap (λ (x : Room). x .stores) p) ∙ e)
 
     pub push-stored : r .stores ≡ true → pushed s o t a ≡ push s o t a
     unfolding push
-    push-stored e = pushed-as arbiter has s (pushed s o t a) (sym (p .some) ∙ e)
+    push-stored e = pushed-as arbiter has s (pushed s o t a) (sym (ap (λ (x : Room). x .stores) p) ∙ e)
 
 -- ---- the record in the block
 module _ (b : List ℕ) (k : Kernel) (g : Holds b k) (o t a : ℕ) where

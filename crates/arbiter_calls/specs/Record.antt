@@ -1,8 +1,7 @@
 -- Where the record of a thread that parks goes. Assumes nothing.
-use mathlib.Core.Path.{_≡_}
-use mathlib.Core.Bool.{Bool, true, not}
+use mathlib.Core.Bool.{Bool, not}
 use Prim.Native.Nat.{ℕ}
-use Rattle.laws.specs.Logic.{_and_}
+use Rattle.laws.specs.Logic.{pick, _and_}
 use Rattle.types.specs.declared.object.ObjectStore.{ObjectStore}
 use Rattle.sound.specs.View.{objectAt, waiterThreads, waiterAddresses}
 use Rattle.sound.specs.Records.{chainOf, has?}
@@ -13,6 +12,6 @@ use Rattle.arbiter_calls.specs.declared.record.Room.{Room}
 abbrev pub stores : ObjectStore → ℕ → ℕ → ℕ → Bool
 stores s o t a = isArbiter (objectAt s o) and not (has? (waiterThreads (s .waiters)) (waiterAddresses (s .waiters)) t a (chainOf s o))
 
-pub record Place (s : ObjectStore) (o t a : ℕ) (r : Room) : Type 0 where
-  pub some : r .stores ≡ stores s o t a
-  pub behind : r .stores ≡ true → r .last ≡ lastOf (chainOf s o)
+-- behind the last record of the object's chain
+abbrev pub placeFor : ObjectStore → ℕ → ℕ → ℕ → Room
+placeFor s o t a = record { stores = stores s o t a; last = pick (stores s o t a) (lastOf (chainOf s o)) 0 }

@@ -16,9 +16,9 @@ ghost use Rattle.sound.specs.Records.{chainOf};
 ghost use Rattle.object.specs.Waiters.{lastOf, pushed, push};
 ghost use Rattle.svc.specs.Call.{withObjects};
 ghost use Rattle.rows.specs.Holds.{Holds};
-ghost use Rattle.arbiter_calls.specs.Record.{Place};
+ghost use Rattle.arbiter_calls.specs.Record.{placeFor};
 
-// Whether a record is stored, and behind which, 0 for the first of a chain.
+// Whether a record is stored, and behind which, 0 for none and for the first of a chain.
 pub struct Room {
     pub stores: bool,
     pub last: u32,
@@ -27,7 +27,7 @@ pub struct Room {
 // Only an arbiter stores records, and no second one of a thread for one address.
 pub fn place_for(block: &[u8], o: ObjectId, t: u32, a: u32) -> Room
     requires { ⌜ length (now block) ≡ 16384 ⌝ }
-    ensures { λ r. ⌜ Place (decBlock (now (block .entry)) .objects) (o .0) t a r ⌝ }
+    ensures { λ r. ⌜ r ≡ placeFor (decBlock (now (block .entry)) .objects) (o .0) t a ⌝ }
 {
     let old = read::slot_at(block, o.0);
     let x = old.object;

@@ -13,7 +13,7 @@ ghost use Rattle.kernel.specs.NextEvent.{nextWake, dueAfter, nextEvent};
 ghost use Rattle.kernel.specs.Marks.{listIf, listsIf, dueMarked, option};
 
 // The earliest wake tick of a blocked thread. One more in m for each object that a blocked thread waits on, in the same turn, so that each
-// thread is read once.
+// thread is read once. The tick is told by `option`: of the words no more is read.
 fn look_at_threads(m: &mut [u32; 129], b: &[u8]) -> Earliest
     requires { ⌜ length (now b) ≡ 16384 ⌝ }
     ensures { λ r. ⌜ option r ≡ nextWake TickOption.NoTick (decBlock (now (b .entry)) .threads) ⌝ }
@@ -31,7 +31,7 @@ fn look_at_threads(m: &mut [u32; 129], b: &[u8]) -> Earliest
     best
 }
 
-// A slot that no blocked thread waits on is not read.
+// A slot that no blocked thread waits on is not read. Told by `option`: of the words no more is read.
 fn due_at(waited: bool, best: Earliest, b: &[u8], i: usize) -> Earliest
     requires { ⌜ length (now b) ≡ 16384 ⌝ }
     requires { ⌜ i < 128 ⌝ }
@@ -45,7 +45,7 @@ fn due_at(waited: bool, best: Earliest, b: &[u8], i: usize) -> Earliest
     kernel::next_event::earlier_option(best, kernel::next_event::due_of(o))
 }
 
-// The timers that m marks.
+// The timers that m marks. Told by `option`: of the words no more is read.
 fn next_due(first: Earliest, m: &[u32; 129], b: &[u8]) -> Earliest
     requires { ⌜ length (now b) ≡ 16384 ⌝ }
     ensures { λ r. ⌜ option r ≡ dueMarked (now (m .entry)) (option first) 1 (decBlock (now (b .entry)) .objects .slots) ⌝ }

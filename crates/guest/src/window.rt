@@ -25,6 +25,7 @@ pub fn window_ok(base: u32, window: &[u8]) -> bool
     base as u64 + n <= 4294967296
 }
 
+// The places past n are left open: the calls read n words.
 fn words_at(window: &[u8], at: usize, n: usize) -> [u32; 8]
     requires { ⌜ n ≤ 8 ⌝ }
     requires { ⌜ at + n * 4 ≤ length (now window) ⌝ }
@@ -39,7 +40,8 @@ fn words_at(window: &[u8], at: usize, n: usize) -> [u32; 8]
     l
 }
 
-// The n words that the call reads, which questions 5 and 6 have found in the window.
+// The n words that the call reads, which questions 5 and 6 have found in the window. The places past n are left open, as
+// by `words_at`.
 pub fn words_in(window: &[u8], base: u32, number: u32, r: Registers, n: u32) -> [u32; 8]
     requires { ⌜ n ≡ wordsRead number r ⌝ }
     requires { ⌜ tooMany? number r ≡ false ⌝ }

@@ -93,6 +93,7 @@ fn kept_after(t: u32, o: u32) -> ObjectId
     ObjectId(0)
 }
 
+// With a finding the block stays as it is, and the object is left open: the callers refuse then.
 fn open_thread(block: &mut [u8], t: u32) -> Opened
     requires { ⌜ length (now block) ≡ 16384 ⌝ }
     requires { ⌜ sound? (now block) ≡ true ⌝ }
@@ -119,6 +120,7 @@ fn open_thread(block: &mut [u8], t: u32) -> Opened
     }
 }
 
+// With a finding as `open_thread`.
 fn open_process(block: &mut [u8]) -> Opened
     requires { ⌜ length (now block) ≡ 16384 ⌝ }
     requires { ⌜ sound? (now block) ≡ true ⌝ }
@@ -143,6 +145,7 @@ fn open_process(block: &mut [u8]) -> Opened
     }
 }
 
+// With a finding as `open_thread`.
 fn open_current(block: &mut [u8], current: ThreadOption) -> Opened
     requires { ⌜ length (now block) ≡ 16384 ⌝ }
     requires { ⌜ sound? (now block) ≡ true ⌝ }
@@ -154,7 +157,7 @@ fn open_current(block: &mut [u8], current: ThreadOption) -> Opened
     }
 }
 
-// With a finding the block stays as it is.
+// With a finding the block stays as it is, and the object is left open: the callers refuse then.
 pub fn open(block: &mut [u8], h: u32) -> Opened
     requires { ⌜ length (now block) ≡ 16384 ⌝ }
     requires { ⌜ sound? (now block) ≡ true ⌝ }

@@ -118,7 +118,8 @@ fn head_after(h: Head, next: ThreadOption, relief: bool) -> Head
 }
 
 // The pass up to its choice. True, with the block as it was, if a count does not fit: the tries are done in the block, and
-// only a later one may find that, so a copy is kept.
+// only a later one may find that, so a copy is kept. No byte is left open: a sound block is the encoding of what
+// it decodes to.
 fn try_waits(block: &mut [u8], tick: u64) -> bool
     requires { ⌜ length (now block) ≡ 16384 ⌝ }
     requires { ⌜ sound? (now block) ≡ true ⌝ }

@@ -12,7 +12,8 @@ ghost use Rattle.sound.specs.Question.{sound?};
 ghost use Rattle.thread.specs.Threads.{withThreads};
 ghost use Rattle.pass.specs.Signal as def;
 
-// Thread w takes the signal of the object. True, with the block as it is, if a count does not fit any more.
+// Thread w takes the signal of the object. True, with the block as it is, if a count does not fit any more. No byte
+// is left open: a sound block is the encoding of what it decodes to.
 pub fn take(block: &mut [u8], o: ObjectId, w: u32) -> bool
     requires { ⌜ length (now block) ≡ 16384 ⌝ }
     requires { ⌜ sound? (now block) ≡ true ⌝ }
@@ -31,6 +32,7 @@ pub fn take(block: &mut [u8], o: ObjectId, w: u32) -> bool
 }
 
 // The first n of a list, one after the other. True if a count does not fit any more; those before it are taken then.
+// The block is left open then, but for being sound: the callers refuse and put back a copy.
 pub fn take_list(block: &mut [u8], l: [ObjectId; 8], n: u32, w: u32) -> bool
     requires { ⌜ length (now block) ≡ 16384 ⌝ }
     requires { ⌜ sound? (now block) ≡ true ⌝ }

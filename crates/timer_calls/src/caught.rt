@@ -53,7 +53,8 @@ pub fn catch_up_if(block: &mut [u8], fires: bool, tick: u64)
     due::catch_up(block, tick);
 }
 
-// Timers that came due fire, then the handle is opened. With a finding the block stays as it is.
+// Timers that came due fire, then the handle is opened. With a finding the block stays as it is, and the object is left
+// open: the callers refuse then.
 pub fn open_caught(block: &mut [u8], h: u32, tick: u64) -> Opened
     requires { ⌜ length (now block) ≡ 16384 ⌝ }
     requires { ⌜ sound? (now block) ≡ true ⌝ }

@@ -76,7 +76,8 @@ fn object_at(l: [ObjectId; 8], i: u32) -> ObjectId
     l[i as usize]
 }
 
-// A wait for all takes every object, one for any the one at the index. True if a count does not fit any more.
+// A wait for all takes every object, one for any the one at the index. True if a count does not fit any more. The
+// block is left open then, as by `take_list`.
 fn take_given(block: &mut [u8], t: Thread, i: u32, w: u32) -> bool
     requires { ⌜ length (now block) ≡ 16384 ⌝ }
     requires { ⌜ sound? (now block) ≡ true ⌝ }
@@ -93,6 +94,7 @@ fn take_given(block: &mut [u8], t: Thread, i: u32, w: u32) -> bool
     take::take(block, o, w)
 }
 
+// True if a count does not fit any more. The block is left open then, as by `take_list`.
 fn take_for(block: &mut [u8], f: Fate, t: Thread, w: u32) -> bool
     requires { ⌜ length (now block) ≡ 16384 ⌝ }
     requires { ⌜ sound? (now block) ≡ true ⌝ }
@@ -109,7 +111,8 @@ fn take_for(block: &mut [u8], f: Fate, t: Thread, w: u32) -> bool
     }
 }
 
-// The turn of thread i. True if a count does not fit any more; part of the turn is done then.
+// The turn of thread i. True if a count does not fit any more; part of the turn is done then. The block is left
+// open, since the pass refuses and puts back a copy.
 fn try_wait(block: &mut [u8], i: u32, tick: u64) -> bool
     requires { ⌜ length (now block) ≡ 16384 ⌝ }
     requires { ⌜ sound? (now block) ≡ true ⌝ }
@@ -133,7 +136,8 @@ fn try_wait(block: &mut [u8], i: u32, tick: u64) -> bool
     false
 }
 
-// True if a count does not fit any more, with part of it done: the caller has a copy of the block.
+// True if a count does not fit any more, with part of it done. The block is left open then: the pass refuses and puts back
+// its copy.
 pub fn try_waits(block: &mut [u8], tick: u64) -> bool
     requires { ⌜ length (now block) ≡ 16384 ⌝ }
     requires { ⌜ sound? (now block) ≡ true ⌝ }

@@ -13,7 +13,8 @@ ghost use Rattle.thread.specs.Threads.{withThreads};
 ghost use Rattle.pass.specs.Signal.{clearPulses};
 ghost use Rattle.pass.specs.Timers.{anyOver, fireTimers};
 
-// Timers that are due fire. True if a count of periods does not fit; some have fired then.
+// Timers that are due fire. True if a count of periods does not fit; some have fired then. The block is left open,
+// since the pass refuses and puts back a copy.
 pub fn fire(block: &mut [u8], tick: u64) -> bool
     requires { ⌜ length (now block) ≡ 16384 ⌝ }
     requires { ⌜ sound? (now block) ≡ true ⌝ }

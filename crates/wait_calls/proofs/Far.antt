@@ -1,13 +1,13 @@
 -- Counts that are not near the end of their type fit after eight waits have taken of them. Assumes nothing.
 use mathlib.Core.Path.{_≡_, refl, sym, ap, subst, _∙_}
-use mathlib.Core.Bool.{Bool, true, false}
+use mathlib.Core.Bool.{Bool, true, false, not}
 use mathlib.Core.List.{List, [], _∷_}
 use mathlib.Core.Logic.{_⊎_, inl, inr}
 use Prim.Native.Nat.{ℕ, zero, suc, _+_, _≤_, _<_}
 use native.Mathlib.Omega.{arith}
 use lib.ListN.{length, getD}
 use borrow.Author.Tests.{ne-eqb, lt-ltb, leb-false}
-use Rattle.laws.specs.Logic.{pick, _or_, or-end, lt-cases}
+use Rattle.laws.specs.Logic.{pick, _and_, _or_, or-end, lt-cases}
 use Rattle.laws.specs.All.{All, all-as, all-get}
 use Rattle.types.specs.declared.object.KObject.{KObject}
 use Rattle.types.specs.declared.object.KObject.the-variants.{Free, Thread, Event, Mutex, Semaphore, Timer, AddressArbiter, Process, ResourceLimit}
@@ -19,7 +19,7 @@ use Rattle.sound.specs.Objects.{refOf, ofNone}
 use Rattle.object.specs.Slots.{withObject, content}
 use Rattle.soundness.specs.Slots.{slot-cases}
 use Rattle.pass.specs.Signal.{acquired, acquireOver, acquire, acquires}
-use Rattle.wait_calls.specs.Near.{near}
+use Rattle.wait_calls.specs.Near.{near, anyNear, mayFind}
 
 -- n waits fit; a semaphore counts down from below 2147483648 through 0, then from 4294967295
 abbrev pub Far : ℕ → KObject → Type 0
@@ -136,3 +136,12 @@ pub taken-fits : (all : Bool) (os : List ℕ) (i : ℕ) (s : ObjectStore) (w : �
     → pick all (acquires s os w) (acquire s (getD os i 0) w) .overflow ≡ s .overflow
 taken-fits true os i s w h a = acquires-fit os 8 s w h (all-as (λ o. near (objectAt s o) ≡ false) (λ o. Far 8 (objectAt s o)) (λ o e. near-far (objectAt s o) e) os a)
 taken-fits false os i s w h a = over-same s (getD os i 0) w 7 (near-far (objectAt s (getD os i 0)) (all-get (λ o. near (objectAt s o) ≡ false) os i 0 (near-none s 0 refl) a))
+
+-- where no copy is needed
+pub finds-none : (s : ObjectStore) (os : List ℕ) (all fires known : Bool) → mayFind s os all fires known ≡ false
+    → ((all ≡ false) × ((fires ≡ false) × (known ≡ true))) ⊎ (anyNear s os ≡ false)
+unfolding _and_ _or_
+finds-none s os true fires known e = inr e
+finds-none s os false true known e = inr e
+finds-none s os false false true e = inl (refl, (refl, refl))
+finds-none s os false false false e = inr e

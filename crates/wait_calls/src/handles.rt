@@ -50,7 +50,8 @@ pub fn look_up(block: &[u8], words: [u32; 8], n: u32) -> Opened
 }
 
 // The first n handles opened in the block, in order, up to the first that is unknown. There is a slot for each object that is
-// made, so nothing is found.
+// made, so nothing is found. With an unknown handle the objects are left open: the call answers 16 and does not look at
+// them.
 pub fn open_list(block: &mut [u8], words: [u32; 8], n: u32) -> Opened
     requires { ⌜ length (now block) ≡ 16384 ⌝ }
     requires { ⌜ sound? (now block) ≡ true ⌝ }

@@ -44,7 +44,8 @@ fn object_at(l: [ObjectId; 8], n: u32, i: u32) -> ObjectId
     l[i as usize]
 }
 
-// Every object is taken, one after the other. With a finding those before are taken already.
+// Every object is taken, one after the other. With a finding those before are taken already, and the block is left open:
+// `wait_saved` puts back a copy.
 fn take_all(block: &mut [u8], c: u32, l: [ObjectId; 8], n: u32, i: u32) -> Outcome
     requires { ⌜ length (now block) ≡ 16384 ⌝ }
     requires { ⌜ sound? (now block) ≡ true ⌝ }
@@ -60,7 +61,8 @@ fn take_all(block: &mut [u8], c: u32, l: [ObjectId; 8], n: u32, i: u32) -> Outco
     outcome::gives(i)
 }
 
-// A wait for all takes every object, one for any the one at the index; r1 gets the index.
+// A wait for all takes every object, one for any the one at the index; r1 gets the index. Where one for all finds
+// something the block is left open, as by `take_all`.
 fn take_at(block: &mut [u8], c: u32, l: [ObjectId; 8], n: u32, all: bool, i: u32) -> Outcome
     requires { ⌜ length (now block) ≡ 16384 ⌝ }
     requires { ⌜ sound? (now block) ≡ true ⌝ }
@@ -80,7 +82,7 @@ fn take_at(block: &mut [u8], c: u32, l: [ObjectId; 8], n: u32, all: bool, i: u32
     outcome::gives(i)
 }
 
-// A time-out of 0 does not wait.
+// A time-out of 0 does not wait. Where a wait for all finds something the block is left open, as by `take_all`.
 fn wait_at(
     block: &mut [u8],
     found: IndexOption,
@@ -120,6 +122,7 @@ fn wait_at(
 }
 
 // The call once the timers have fired and the handles are open: they name the first n of l, unless one is unknown.
+// Where a wait for all finds something the block is left open, as by `take_all`.
 fn wait_list(
     block: &mut [u8],
     r: Registers,
@@ -148,8 +151,9 @@ fn wait_list(
     wait_at(block, found, c, l, n, all, nanos, tick)
 }
 
-// Timers that came due fire, the handles are opened unless all are known, then the thread waits. Where the wait finds something the
-// block may be left with that done; l and known are what the handles name before.
+// Timers that came due fire, the handles are opened unless all are known, then the thread waits. l and known are what
+// the handles name before. Where the wait finds something and some of that is done the block is left open: `wait_saved`
+// puts back a copy, and `may_find` tells where none is needed.
 fn wait_caught(
     block: &mut [u8],
     r: Registers,

@@ -1,11 +1,10 @@
 // Whether a wait on a list may find a count too large. What it finds is told only when it takes the objects, so where it may, the
 // block is saved first.
+use object::handles;
 use rows::read;
 use types::object::KObject;
 use units::ObjectId;
 ghost use mathlib.Core.Path.{_≡_};
-ghost use mathlib.Core.Bool.{true, false};
-ghost use mathlib.Core.Logic.{_⊎_};
 ghost use lib.ListN.{length, take};
 ghost use Rattle.block.specs.Block.{decBlock};
 ghost use Rattle.sound.specs.View.{ids};
@@ -52,14 +51,11 @@ fn any_near(block: &[u8], l: [ObjectId; 8], n: u32) -> bool
 // A wait for any on objects that are all there, with no timer due, writes nothing before it takes.
 pub fn may_find(block: &[u8], l: [ObjectId; 8], n: u32, all: bool, fires: bool, known: bool) -> bool
     requires { ⌜ length (now block) ≡ 16384 ⌝ }
-    ensures { λ r. ⌜ ((r ≡ false) → (((all ≡ false) × ((fires ≡ false) × (known ≡ true))) ⊎ (def.anyNear (decBlock (now (block .entry)) .objects) (take n (ids l)) ≡ false))) ⌝ }
+    ensures { λ r. ⌜ r ≡ def.mayFind (decBlock (now (block .entry)) .objects) (take n (ids l)) all fires known ⌝ }
 {
-    if !all {
-        if !fires {
-            if known {
-                return false;
-            }
-        }
+    let before = handles::either(fires, !known);
+    if !handles::either(all, before) {
+        return false;
     }
     any_near(block, l, n)
 }

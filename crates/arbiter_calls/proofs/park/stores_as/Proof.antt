@@ -1,3 +1,5 @@
+use mathlib.Core.Path.{ap}
+use Rattle.arbiter_calls.specs.declared.record.Room.{Room}
 use borrow.Author.Needs.{needs}
 use Rattle.arbiter_calls.proofs.park.stores_as.Statement.{statement}
 use Rattle.arbiter_calls.proofs.park.stores_as.Tie as tie
@@ -15,7 +17,7 @@ returns : tie.Need-returns
 returns c = search needs
 
 returns-2 : tie.Need-returns-2
-returns-2 c = rw (c .before .before .current .given .1) (c .place-for .ensures .some)
+returns-2 c = rw (c .before .before .current .given .1) (ap (λ (x : Room). x .stores) (c .place-for .ensures))
 
 pub stores-as-spec : {M : Type 1} → statement M
 stores-as-spec =

@@ -10,6 +10,7 @@ use Rattle.block.specs.Block.{decBlock}
 use Rattle.svc.specs.Timers.{caughtUp}
 use Rattle.lent.specs.Operations.{outOfHandles?}
 use Rattle.outcome.specs.Findings.{foundOf}
+use Rattle.wait_calls.proofs.Far.{finds-none}
 use Rattle.wait_calls.proofs.Ways.{refuses}
 use Rattle.wait_calls.proofs.Whole.{full-before, call-refused, call-none, looked-is, ready}
 use borrow.Author.Needs.{needs}
@@ -95,7 +96,7 @@ returns-3 c =
     let f = c .before .before .before .before .before .before .before .before .before .before .found-before .ensures ∙ ap (λ (t : Bool). foundOf t (caughtUp k (a .tick) .objects .overflow or outOfHandles? k)) w in
     let l = c .before .before .before .before .before .before .before .before .before .before .before .before .before .before .before .before .before .look-up .result .objects in
     let o = ap (λ (m : ℕ). take m (ids l)) (c .before .before .before .before .before .before .before .least-of .ensures) ∙ looked-is b (c .before .before .before .before .before .before .before .before .before .before .before .before .before .before .before .before .before .before .before .before .pre .1) (a .r) (a .words) (a .n) (a .tick) z l (x .0) in
-    (c .before .before .wait-caught .ensures .0, c .before .before .wait-caught .ensures .1 (⊎-elim (λ q. inl q) (λ e. inr (call-none b (c .before .before .before .before .before .before .before .before .before .before .before .before .before .before .before .before .before .before .before .before .pre .1) (a .r) (a .words) (a .n) (a .tick) z (sym f ∙ c .before .before .before .before .before .before .before .before .before .if1 .left) (ap (anyNear (k .objects)) (sym o) ∙ e))) (c .before .before .before .before .before .may-find .ensures (c .before .before .before .before .if2 .left))))
+    (c .before .before .wait-caught .ensures .0, c .before .before .wait-caught .ensures .1 (⊎-elim (λ q. inl q) (λ e. inr (call-none b (c .before .before .before .before .before .before .before .before .before .before .before .before .before .before .before .before .before .before .before .before .pre .1) (a .r) (a .words) (a .n) (a .tick) z (sym f ∙ c .before .before .before .before .before .before .before .before .before .if1 .left) (ap (anyNear (k .objects)) (sym o) ∙ e))) (finds-none _ _ _ _ _ (sym (c .before .before .before .before .before .may-find .ensures) ∙ c .before .before .before .before .if2 .left))))
 
 pub wait-synchronization-n-spec : {M : Type 1} → statement M
 wait-synchronization-n-spec =
