@@ -21,8 +21,8 @@ pub fn is_below(x: u32, y: u32) -> bool
 }
 
 // A time-out of 0 counts, a negative one waits for good.
-pub fn park_time(timed: bool, nanos: u64) -> TickOption
-    ensures { λ r. ⌜ r ≡ parkTimeIn timed nanos ⌝ }
+pub fn park_time(timed: bool, nanos: Nanos) -> TickOption
+    ensures { λ r. ⌜ r ≡ parkTimeIn timed (nanos .0) ⌝ }
 {
     if !timed {
         return TickOption::NoTick;
@@ -30,7 +30,7 @@ pub fn park_time(timed: bool, nanos: u64) -> TickOption
     if svc::read::negative(nanos) {
         return TickOption::NoTick;
     }
-    TickOption::SomeTick(units::nanos_to_ticks(Nanos(nanos)))
+    TickOption::SomeTick(units::nanos_to_ticks(nanos))
 }
 
 // One less, as a signed word, if the kind decrements.

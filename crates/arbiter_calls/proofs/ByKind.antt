@@ -1,13 +1,15 @@
--- ArbitrateAddress by the number of its kind. Assumes nothing.
+-- ArbitrateAddress by its kind. Assumes nothing.
 use mathlib.Core.Path.{_≡_, refl, sym, ap, _∙_}
-use mathlib.Core.Bool.{Bool, true, false}
+use mathlib.Core.Bool.{Bool, true, false, true≢false}
 use mathlib.Core.List.{List}
-use mathlib.Core.Logic.{_≢_}
-use Prim.Native.Nat.{ℕ, zero, suc, _%_, _≤_, _<_}
+use Prim.Native.Nat.{ℕ}
 use native.Mathlib.Omega.{arith}
-use lib.Dec.{eqb, leb, ltb}
-use borrow.Author.Tests.{eq-eqb, ne-eqb}
-use Rattle.laws.specs.Logic.{pick, _and_, _or_}
+use lib.Dec.{ltb}
+use Rattle.laws.specs.Logic.{pick, _or_}
+use Rattle.types.specs.declared.sync.ArbitrationType.{ArbitrationType}
+use Rattle.types.specs.declared.sync.ArbitrationType.the-variants.{Signal, WaitIfLessThan, DecrementAndWaitIfLessThan, WaitIfLessThanWithTimeout, DecrementAndWaitIfLessThanWithTimeout}
+use Rattle.types.specs.declared.sync.ArbitrationOption.{ArbitrationOption}
+use Rattle.types.specs.declared.sync.ArbitrationOption.the-variants.{NoArbitration, SomeArbitration}
 use Rattle.types.specs.declared.thread.TickOption.{TickOption}
 use Rattle.types.specs.declared.kernel.Kernel.{Kernel}
 use Rattle.types.specs.Sync.{arbitrationFromRaw}
@@ -15,47 +17,51 @@ use Rattle.block.specs.Block.{decBlock}
 use Rattle.sound.specs.Question.{sound?}
 use Rattle.svc.specs.declared.Registers.{Registers}
 use Rattle.svc.specs.declared.Served.{Served}
-use Rattle.svc.specs.Call.{answers, pair}
+use Rattle.svc.specs.Call.{answers, pair, resolved}
 use Rattle.svc.specs.Sync.{biased}
-use Rattle.svc.specs.Arbiter.{arbitrateBy, arbitrateAddress}
+use Rattle.svc.specs.Arbiter.{decrements, parkTime, arbitrateFor, arbitrateBy, arbitrateAddress}
 use Rattle.lent.specs.Operations.{finding, outOfHandles?}
 use Rattle.rows.specs.Holds.{holds}
 use Rattle.outcome.specs.Outcome.{refused, answered, outcome, left, outcome-0, outcome-found, left-0, left-found}
 use Rattle.outcome.specs.Findings.{foundOf, same-finding}
-use Rattle.arbiter.specs.Park.{parkTimeIn, wordAfter, overBelow}
-use Rattle.arbiter_calls.specs.Kinds.{signals, parks, goesOn, waits, onHandle}
+use Rattle.arbiter.specs.Park.{wordAfter, overBelow}
+use Rattle.arbiter_calls.specs.Kinds.{signals, parks, goesOn, waits, waitsAs, onHandle}
+
+-- the kinds that wait (`is_wait` of sync.rs)
+abbrev pub isWait : ArbitrationType → Bool
+isWait Signal = false
+isWait WaitIfLessThan = true
+isWait DecrementAndWaitIfLessThan = true
+isWait WaitIfLessThanWithTimeout = true
+isWait DecrementAndWaitIfLessThanWithTimeout = true
 
 module _ (k : Kernel) (r : Registers) (word tick : ℕ) where
-  pub no-kind : 4 < r .r2 → answers 18 k ≡ arbitrateAddress k r word tick
+  by-kind : (x : ArbitrationOption) → arbitrationFromRaw (r .r2) ≡ x → arbitrateBy x k r word tick ≡ arbitrateAddress k r word tick
   unfolding arbitrateAddress
-  no-kind h =
-      rw (
-        ne-eqb (r .r2) 0 (λ e. omega arith),
-        ne-eqb (r .r2) 1 (λ e. omega arith),
-        ne-eqb (r .r2) 2 (λ e. omega arith),
-        ne-eqb (r .r2) 3 (λ e. omega arith),
-        ne-eqb (r .r2) 4 (λ e. omega arith),
-      )
+  by-kind x e = ap (λ (y : ArbitrationOption). arbitrateBy y k r word tick) (sym e)
 
-  pub signal-kind : r .r2 ≡ 0 → onHandle k (r .r0) (signals (r .r1) (r .r3)) ≡ arbitrateAddress k r word tick
-  unfolding arbitrateAddress onHandle
-  signal-kind e = rw (eq-eqb (r .r2) 0 e)
+  pub no-kind : arbitrationFromRaw (r .r2) ≡ NoArbitration → answers 18 k ≡ arbitrateAddress k r word tick
+  no-kind e = by-kind NoArbitration e
 
-  module _ (v : k .overflow ≡ false) where
-    wait-as : (n : ℕ) → n ≢ 0 → n ≤ 4
-        → onHandle k (r .r0) (waits (eqb (n % 2) 0) (parkTimeIn (leb 3 n) (pair (r .r4) (r .r5))) (r .r1) (r .r3) word tick) ≡ arbitrateBy (arbitrationFromRaw n) k r word tick
-    unfolding onHandle _and_ _or_
-    wait-as zero p h = absurd (p refl)
-    wait-as (suc zero) p h = rw v
-    wait-as (suc (suc zero)) p h = rw v
-    wait-as (suc (suc (suc zero))) p h = rw v
-    wait-as (suc (suc (suc (suc zero)))) p h = rw v
-    wait-as (suc (suc (suc (suc (suc n))))) p h = absurd (omega arith)
+  pub some-kind : (kind : ArbitrationType) → arbitrationFromRaw (r .r2) ≡ SomeArbitration kind → arbitrateFor kind k (resolved k (r .r0)) r word tick ≡ arbitrateAddress k r word tick
+  some-kind kind e = by-kind (SomeArbitration kind) e
 
-    wait-kind : r .r2 ≢ 0 → r .r2 ≤ 4
-        → onHandle k (r .r0) (waits (eqb (r .r2 % 2) 0) (parkTimeIn (leb 3 (r .r2)) (pair (r .r4) (r .r5))) (r .r1) (r .r3) word tick) ≡ arbitrateAddress k r word tick
-    unfolding arbitrateAddress
-    wait-kind p h = wait-as (r .r2) p h
+  pub signal-kind : (kind : ArbitrationType) → kind ≡ Signal → onHandle k (r .r0) (signals (r .r1) (r .r3)) ≡ arbitrateFor kind k (resolved k (r .r0)) r word tick
+  unfolding onHandle
+  signal-kind kind e = rw e
+
+  pub wait-kind : (kind : ArbitrationType) → isWait kind ≡ true → onHandle k (r .r0) (waitsAs kind r word tick) ≡ arbitrateFor kind k (resolved k (r .r0)) r word tick
+  unfolding onHandle
+  wait-kind Signal e = absurd (true≢false (sym e))
+  wait-kind WaitIfLessThan e = refl
+  wait-kind DecrementAndWaitIfLessThan e = refl
+  wait-kind WaitIfLessThanWithTimeout e = refl
+  wait-kind DecrementAndWaitIfLessThanWithTimeout e = refl
+
+  waits-over : k .overflow ≡ false → (kind : ArbitrationType)
+      → onHandle k (r .r0) (waits (decrements kind) (parkTime kind (pair (r .r4) (r .r5))) (r .r1) (r .r3) word tick) ≡ onHandle k (r .r0) (waitsAs kind r word tick)
+  unfolding onHandle _or_
+  waits-over v kind = rw v
 
 -- ---- in the block b
 module _ (b : List ℕ) where
@@ -63,9 +69,9 @@ module _ (b : List ℕ) where
   unfolding decBlock
   none-over = refl
 
-  pub waits-kind : (r : Registers) (word tick : ℕ) → r .r2 ≢ 0 → r .r2 ≤ 4
-      → onHandle (decBlock b) (r .r0) (waits (eqb (r .r2 % 2) 0) (parkTimeIn (leb 3 (r .r2)) (pair (r .r4) (r .r5))) (r .r1) (r .r3) word tick) ≡ arbitrateAddress (decBlock b) r word tick
-  waits-kind r word tick = wait-kind (decBlock b) r word tick none-over
+  pub waits-kind : (r : Registers) (word tick : ℕ) (kind : ArbitrationType)
+      → onHandle (decBlock b) (r .r0) (waits (decrements kind) (parkTime kind (pair (r .r4) (r .r5))) (r .r1) (r .r3) word tick) ≡ onHandle (decBlock b) (r .r0) (waitsAs kind r word tick)
+  waits-kind r word tick = waits-over (decBlock b) r word tick none-over
 
 -- ---- the kinds that wait, by whether the word is less than the value
 module _ (k : Kernel) (h : ℕ) (d : Bool) (time : TickOption) (a value word tick : ℕ) where

@@ -3,15 +3,17 @@ use mathlib.Core.Bool.{Bool}
 use Prim.Native.Nat.{ℕ}
 use lib.Dec.{eqb, ltb}
 use Rattle.laws.specs.Logic.{pick}
+use Rattle.types.specs.declared.sync.ArbitrationType.{ArbitrationType}
 use Rattle.types.specs.declared.thread.TickOption.{TickOption}
 use Rattle.types.specs.declared.kernel.Kernel.{Kernel}
 use Rattle.object.specs.declared.kept.Resolved.{Resolved}
+use Rattle.svc.specs.declared.Registers.{Registers}
 use Rattle.svc.specs.declared.WordOption.{WordOption}
 use Rattle.svc.specs.declared.WordOption.the-variants.{NoWord, SomeWord}
 use Rattle.svc.specs.declared.Served.{Served}
-use Rattle.svc.specs.Call.{done, answers, withObjects, withOver, resolved}
+use Rattle.svc.specs.Call.{done, answers, withObjects, withOver, pair, resolved}
 use Rattle.svc.specs.Sync.{biased}
-use Rattle.svc.specs.Arbiter.{signalAddress, park}
+use Rattle.svc.specs.Arbiter.{signalAddress, park, waitBelow}
 use Rattle.arbiter.specs.Park.{wordAfter, overBelow}
 
 abbrev pub signals : ℕ → ℕ → Kernel → ℕ → Served
@@ -28,6 +30,10 @@ goesOn k o = done k
 abbrev pub waits : Bool → TickOption → ℕ → ℕ → ℕ → ℕ → Kernel → ℕ → Served
 waits decrements time a value word tick k o =
     pick (ltb (biased word) (biased value)) (parks a time tick (overBelow decrements word) (wordAfter decrements word) k o) (goesOn k o)
+
+-- a kind that waits, with the value and the time of the registers
+abbrev pub waitsAs : ArbitrationType → Registers → ℕ → ℕ → Kernel → ℕ → Served
+waitsAs kind r word tick k o = waitBelow kind k o (r .r1) (r .r3) word (pair (r .r4) (r .r5)) tick
 
 -- a handle that names nothing is answered with 16
 unfoldable pub onHandle : Kernel → ℕ → (Kernel → ℕ → Served) → Served

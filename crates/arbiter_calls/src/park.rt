@@ -9,7 +9,9 @@ use rows::write;
 use svc::WordOption;
 use types::thread::ThreadOption;
 use types::thread::TickOption;
+use units::Handle;
 use units::ObjectId;
+use units::Ticks;
 ghost use mathlib.Core.Path.{_≡_};
 ghost use mathlib.Core.Bool.{true, false};
 ghost use lib.ListN.{length};
@@ -38,9 +40,9 @@ fn stores_as(block: &[u8], current: ThreadOption, o: ObjectId, a: u32) -> bool
 }
 
 // A record would be stored, and none is free. A pseudo-handle names no arbiter, and only an arbiter stores records.
-fn no_record(block: &[u8], h: u32, a: u32) -> bool
+fn no_record(block: &[u8], h: Handle, a: u32) -> bool
     requires { ⌜ length (now block) ≡ 16384 ⌝ }
-    ensures { λ r. ⌜ r ≡ noRecord (decBlock (now (block .entry))) h a ⌝ }
+    ensures { λ r. ⌜ r ≡ noRecord (decBlock (now (block .entry))) (h .0) a ⌝ }
 {
     if codec::get32(block, 36) != 0 {
         return false;
@@ -50,11 +52,11 @@ fn no_record(block: &[u8], h: u32, a: u32) -> bool
 }
 
 // A sum that does not fit counts only where the thread parks: if the handle names an object.
-fn over_known(block: &[u8], h: u32, over: bool) -> bool
+fn over_known(block: &[u8], h: Handle, over: bool) -> bool
     requires { ⌜ length (now block) ≡ 16384 ⌝ }
     requires { ⌜ sound? (now block) ≡ true ⌝ }
-    requires { ⌜ noRoom (decBlock (now block)) h ≡ false ⌝ }
-    ensures { λ r. ⌜ r ≡ over and known (decBlock (now (block .entry))) h ⌝ }
+    requires { ⌜ noRoom (decBlock (now block)) (h .0) ≡ false ⌝ }
+    ensures { λ r. ⌜ r ≡ over and known (decBlock (now (block .entry))) (h .0) ⌝ }
 {
     if !over {
         return false;
@@ -63,10 +65,10 @@ fn over_known(block: &[u8], h: u32, over: bool) -> bool
 }
 
 // What is found if the current thread parks through the handle; over says that a sum of the call does not fit.
-fn found_parking(block: &[u8], h: u32, a: u32, over: bool) -> u32
+fn found_parking(block: &[u8], h: Handle, a: u32, over: bool) -> u32
     requires { ⌜ length (now block) ≡ 16384 ⌝ }
     requires { ⌜ sound? (now block) ≡ true ⌝ }
-    ensures { λ n. ⌜ n ≡ foundParking (decBlock (now (block .entry))) h a over ⌝ }
+    ensures { λ n. ⌜ n ≡ foundParking (decBlock (now (block .entry))) (h .0) a over ⌝ }
 {
     if open::no_room(block, h) {
         return 7;
@@ -77,11 +79,11 @@ fn found_parking(block: &[u8], h: u32, a: u32, over: bool) -> u32
 }
 
 // With a record at the end of the arbiter's chain; with an object of another kind it parks without one.
-fn park_at(block: &mut [u8], c: u32, o: ObjectId, a: u32, time: TickOption, tick: u64)
+fn park_at(block: &mut [u8], c: u32, o: ObjectId, a: u32, time: TickOption, tick: Ticks)
     requires { ⌜ length (now block) ≡ 16384 ⌝ }
     requires { ⌜ sound? (now block) ≡ true ⌝ }
     requires { ⌜ decBlock (now block) .«current_thread» ≡ ThreadOption.SomeThread c ⌝ }
-    ensures { λ _. ⌜ Holds (now (block .exit)) (def.parkAs (ThreadOption.SomeThread c) (decBlock (now (block .entry))) (o .0) a time tick) ⌝ }
+    ensures { λ _. ⌜ Holds (now (block .exit)) (def.parkAs (ThreadOption.SomeThread c) (decBlock (now (block .entry))) (o .0) a time (tick .0)) ⌝ }
 {
     let t = read::thread_at(block, c);
     let wake = begin::wake_tick(time, tick);
@@ -95,12 +97,12 @@ fn park_as(
     o: ObjectId,
     a: u32,
     time: TickOption,
-    tick: u64,
+    tick: Ticks,
 )
     requires { ⌜ length (now block) ≡ 16384 ⌝ }
     requires { ⌜ sound? (now block) ≡ true ⌝ }
     requires { ⌜ decBlock (now block) .«current_thread» ≡ current ⌝ }
-    ensures { λ _. ⌜ Holds (now (block .exit)) (def.park (decBlock (now (block .entry))) (o .0) a time tick) ⌝ }
+    ensures { λ _. ⌜ Holds (now (block .exit)) (def.park (decBlock (now (block .entry))) (o .0) a time (tick .0)) ⌝ }
 {
     match current {
         ThreadOption::NoThread => {}
@@ -112,23 +114,23 @@ fn park_as(
 // pseudo-handle is made: a finding must leave the block as it was.
 pub fn park_current(
     block: &mut [u8],
-    h: u32,
+    h: Handle,
     a: u32,
     time: TickOption,
-    tick: u64,
+    tick: Ticks,
     over: bool,
     word: WordOption,
 ) -> Outcome
     requires { ⌜ length (now block) ≡ 16384 ⌝ }
     requires { ⌜ sound? (now block) ≡ true ⌝ }
-    ensures { λ r. ⌜ r ≡ outcome (onHandle (decBlock (now (block .entry))) h (parks a time tick over word)) ⌝ }
-    ensures { λ _. ⌜ now (block .exit) ≡ left (onHandle (decBlock (now (block .entry))) h (parks a time tick over word)) (now (block .entry)) ⌝ }
+    ensures { λ r. ⌜ r ≡ outcome (onHandle (decBlock (now (block .entry))) (h .0) (parks a time (tick .0) over word)) ⌝ }
+    ensures { λ _. ⌜ now (block .exit) ≡ left (onHandle (decBlock (now (block .entry))) (h .0) (parks a time (tick .0) over word)) (now (block .entry)) ⌝ }
 {
     let found = found_parking(block, h, a, over);
     if found != 0 {
         return outcome::refused(found);
     }
-    let x = open::open(block, h);
+    let x = open::resolve(block, h);
     let o = x.object;
     if o.0 == 0 {
         return outcome::answers(16);

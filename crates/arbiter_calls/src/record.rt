@@ -29,7 +29,7 @@ pub fn place_for(block: &[u8], o: ObjectId, t: u32, a: u32) -> Room
     requires { ⌜ length (now block) ≡ 16384 ⌝ }
     ensures { λ r. ⌜ r ≡ placeFor (decBlock (now (block .entry)) .objects) (o .0) t a ⌝ }
 {
-    let old = read::slot_at(block, o.0);
+    let old = read::slot_at(block, o);
     let x = old.object;
     if !waiters::is_arbiter(x) {
         return Room {
@@ -63,7 +63,7 @@ fn put_record(block: &mut [u8], o: ObjectId, last: u32, t: u32, a: u32)
     let q = head.b;
     let c = head.c;
     let d = head.d;
-    let old = read::slot_at(block, o.0);
+    let old = read::slot_at(block, o);
     let x = old.object;
     let ws = table::get_waiters(block, 12416);
     let unused = waiters::waiter_at(ws, c.1);
@@ -79,7 +79,7 @@ fn put_record(block: &mut [u8], o: ObjectId, last: u32, t: u32, a: u32)
     );
     let first = waiters::first_of(types::object::head_of(x), c.1);
     table::put_waiters(block, 12416, l);
-    write::put_slot(block, o.0, waiters::headed(old, first));
+    write::put_slot(block, o, waiters::headed(old, first));
     write::put_head(
         block,
         Head {

@@ -53,7 +53,7 @@ pub fn signal_address(block: &mut [u8], o: ObjectId, a: u32, value: u32)
     requires { ⌜ sound? (now block) ≡ true ⌝ }
     ensures { λ _. ⌜ Holds (now (block .exit)) (def.signalAddress (decBlock (now (block .entry))) (o .0) a value) ⌝ }
 {
-    let old = read::slot_at(block, o.0);
+    let old = read::slot_at(block, o);
     let x = old.object;
     let first = types::object::head_of(x);
     if first == 0 {
@@ -70,7 +70,7 @@ pub fn signal_address(block: &mut [u8], o: ObjectId, a: u32, value: u32)
     let l = u.waiters;
     wake_threads(block, parked);
     table::put_waiters(block, 12416, l);
-    write::put_slot(block, o.0, waiters::headed(old, u.head));
+    write::put_slot(block, o, waiters::headed(old, u.head));
     write::put_head(
         block,
         Head {

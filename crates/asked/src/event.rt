@@ -2,6 +2,7 @@
 use block::record;
 use kernel::next_event::Earliest;
 use types::thread::TickOption;
+use units::Ticks;
 ghost use mathlib.Core.Path.{_≡_};
 ghost use Prim.Native.Nat.{_≤_, _<_};
 ghost use lib.ListN.{length, getD};
@@ -20,7 +21,10 @@ fn look_at_threads(m: &mut [u32; 129], b: &[u8]) -> Earliest
     ensures { λ _. ⌜ now (m .exit) ≡ tallyAll 129 (now (m .entry)) (listsIf (decBlock (now (b .entry)) .threads)) ⌝ }
     ensures { λ _. ⌜ All (λ t. length (listIf t) ≤ 8) (decBlock (now (b .entry)) .threads) ⌝ }
 {
-    let mut best = Earliest { found: 0, tick: 0 };
+    let mut best = Earliest {
+        found: 0,
+        tick: Ticks(0),
+    };
     let mut i: usize = 0;
     while i < 32 {
         let t = record::thread_at(b, i);

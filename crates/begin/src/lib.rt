@@ -10,21 +10,23 @@ ghost use Prim.Native.Nat.{_+_, _-_, _<_};
 ghost use Rattle.pass.specs.Timers.{saturatingAdd};
 ghost use Rattle.pass.specs.Waits as def;
 
-pub fn saturating_add(a: u64, b: u64) -> u64
-    ensures { λ r. ⌜ r ≡ saturatingAdd a b ⌝ }
+pub fn saturating_add(a: Ticks, b: Ticks) -> Ticks
+    ensures { λ r. ⌜ r .0 ≡ saturatingAdd (a .0) (b .0) ⌝ }
 {
-    if 18446744073709551615 - a < b {
-        return 18446744073709551615;
+    let x = a.0;
+    let y = b.0;
+    if 18446744073709551615 - x < y {
+        return Ticks(18446744073709551615);
     }
-    a + b
+    Ticks(x + y)
 }
 
-pub fn wake_tick(timeout: TickOption, tick: u64) -> TickOption
-    ensures { λ r. ⌜ r ≡ def.wakeTick timeout tick ⌝ }
+pub fn wake_tick(timeout: TickOption, tick: Ticks) -> TickOption
+    ensures { λ r. ⌜ r ≡ def.wakeTick timeout (tick .0) ⌝ }
 {
     match timeout {
         TickOption::NoTick => TickOption::NoTick,
-        TickOption::SomeTick(d) => TickOption::SomeTick(Ticks(saturating_add(tick, d.0))),
+        TickOption::SomeTick(d) => TickOption::SomeTick(saturating_add(tick, d)),
     }
 }
 
@@ -54,8 +56,8 @@ pub fn waiting(t: Thread, l: [ObjectId; 8], n: u32, all: bool, wake: TickOption)
     }
 }
 
-pub fn sleeping(t: Thread, wake: u64) -> Thread
-    ensures { λ r. ⌜ r ≡ def.sleeping t wake ⌝ }
+pub fn sleeping(t: Thread, wake: Ticks) -> Thread
+    ensures { λ r. ⌜ r ≡ def.sleeping t (wake .0) ⌝ }
 {
     let c = thread::thread::without_wait(t);
     let list = c.wait_objects;
@@ -73,7 +75,7 @@ pub fn sleeping(t: Thread, wake: u64) -> Thread
         wait_objects: list,
         wait_count: c.wait_count,
         wait_all: c.wait_all,
-        wakeup_at: TickOption::SomeTick(Ticks(wake)),
+        wakeup_at: TickOption::SomeTick(wake),
         running_since: since,
         waited: c.waited,
         wait_address: address,

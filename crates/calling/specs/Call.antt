@@ -50,7 +50,7 @@ pub record Clear (k : Kernel) : Type 0 where
   pub tableFull : k .handles .full ≡ false
   pub tableOverflow : k .handles .overflow ≡ false
 
--- ---- answers: 0 and those from 16 on are accepted
+-- ---- answers: 0, 16, 17 and 18 are accepted
 abbrev pub Accepted : ℕ → Type 0
 Accepted n = (n ≡ 0) ⊎ ((16 ≤ n) × (n ≤ 18))
 

@@ -1,6 +1,7 @@
 // The calls by number (`dispatch` of svc.rs). A call changes the block where it lies.
 use outcome::Outcome;
 use svc::Registers;
+use units::Ticks;
 ghost use mathlib.Core.Path.{_≡_};
 ghost use mathlib.Core.Bool.{true};
 ghost use lib.ListN.{length, take};
@@ -25,12 +26,12 @@ pub fn call(
     r: Registers,
     words: [u32; 8],
     n: u32,
-    tick: u64,
+    tick: Ticks,
 ) -> Outcome
     requires { ⌜ length (now block) ≡ 16384 ⌝ }
     requires { ⌜ sound? (now block) ≡ true ⌝ }
-    ensures { λ o. ⌜ o ≡ outcome (def.call number (decBlock (now (block .entry))) r (take n words) tick) ⌝ }
-    ensures { λ _. ⌜ now (block .exit) ≡ left (def.call number (decBlock (now (block .entry))) r (take n words) tick) (now (block .entry)) ⌝ }
+    ensures { λ o. ⌜ o ≡ outcome (def.call number (decBlock (now (block .entry))) r (take n words) (tick .0)) ⌝ }
+    ensures { λ _. ⌜ now (block .exit) ≡ left (def.call number (decBlock (now (block .entry))) r (take n words) (tick .0)) (now (block .entry)) ⌝ }
 {
     if number == 0x08 {
         return threads::create::create_thread(block, r);

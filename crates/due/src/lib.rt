@@ -4,6 +4,8 @@ use rows::write;
 use signal::catch_up;
 use signal::timer;
 use types::object::Slot;
+use units::ObjectId;
+use units::Ticks;
 ghost use mathlib.Core.Path.{_≡_};
 ghost use mathlib.Core.Bool.{true, false};
 ghost use mathlib.Core.List.{map};
@@ -22,9 +24,9 @@ ghost use Rattle.svc.specs.Call.{withObjects};
 ghost use Rattle.svc.specs.Timers.{caughtUp};
 
 // Whether a timer comes due by the tick.
-pub fn timer_due(b: &[u8], tick: u64) -> bool
+pub fn timer_due(b: &[u8], tick: Ticks) -> bool
     requires { ⌜ length (now b) ≡ 16384 ⌝ }
-    ensures { λ r. ⌜ r ≡ timerDue tick (decBlock (now (b .entry)) .objects .slots) ⌝ }
+    ensures { λ r. ⌜ r ≡ timerDue (tick .0) (decBlock (now (b .entry)) .objects .slots) ⌝ }
 {
     let mut i: usize = 0;
     while i < 128 {
@@ -38,9 +40,9 @@ pub fn timer_due(b: &[u8], tick: u64) -> bool
 }
 
 // Whether the count of periods of a timer that is due does not fit. A timer that is not due costs no division.
-pub fn over(b: &[u8], tick: u64) -> bool
+pub fn over(b: &[u8], tick: Ticks) -> bool
     requires { ⌜ length (now b) ≡ 16384 ⌝ }
-    ensures { λ r. ⌜ r ≡ caughtUp (decBlock (now (b .entry))) tick .objects .overflow ⌝ }
+    ensures { λ r. ⌜ r ≡ caughtUp (decBlock (now (b .entry))) (tick .0) .objects .overflow ⌝ }
 {
     let mut i: usize = 0;
     while i < 128 {
@@ -68,8 +70,8 @@ fn mark_lists(m: &mut [u32; 129], b: &[u8])
 }
 
 // Whether catching up may change the slot: a pulse waits for a pass, or a timer is due.
-pub fn may_change(s: Slot, tick: u64) -> bool
-    ensures { λ r. ⌜ r ≡ (s .pulsed or dueBy (dueOf (s .object)) tick) ⌝ }
+pub fn may_change(s: Slot, tick: Ticks) -> bool
+    ensures { λ r. ⌜ r ≡ (s .pulsed or dueBy (dueOf (s .object)) (tick .0)) ⌝ }
 {
     if s.pulsed {
         return true;
@@ -77,18 +79,18 @@ pub fn may_change(s: Slot, tick: u64) -> bool
     timer::slot_due(s, tick)
 }
 
-fn caught_slot(waited: bool, s: Slot, tick: u64) -> Slot
-    ensures { λ r. ⌜ r ≡ lostSlot waited (firedSlot tick s) ⌝ }
+fn caught_slot(waited: bool, s: Slot, tick: Ticks) -> Slot
+    ensures { λ r. ⌜ r ≡ lostSlot waited (firedSlot (tick .0) s) ⌝ }
 {
     let x = timer::fired_slot(tick, s);
     catch_up::lost_slot(waited, x)
 }
 
 // A slot is read before it is written, and a write leaves the slots after it alone, so each is read as it was.
-fn catch_up_slots(b: &mut [u8], m: &[u32; 129], tick: u64)
+fn catch_up_slots(b: &mut [u8], m: &[u32; 129], tick: Ticks)
     requires { ⌜ length (now b) ≡ 16384 ⌝ }
     requires { ⌜ sound? (now b) ≡ true ⌝ }
-    ensures { λ _. ⌜ now (b .exit) ≡ encBlock (withObjects (decBlock (now (b .entry))) (withSlots (decBlock (now (b .entry)) .objects) (lostMarked (now (m .entry)) 1 (map (firedSlot tick) (decBlock (now (b .entry)) .objects .slots))))) ⌝ }
+    ensures { λ _. ⌜ now (b .exit) ≡ encBlock (withObjects (decBlock (now (b .entry))) (withSlots (decBlock (now (b .entry)) .objects) (lostMarked (now (m .entry)) 1 (map (firedSlot (tick .0)) (decBlock (now (b .entry)) .objects .slots))))) ⌝ }
     ensures { λ _. ⌜ length (now (b .exit)) ≡ 16384 ⌝ }
 {
     let mut i: usize = 0;
@@ -96,18 +98,18 @@ fn catch_up_slots(b: &mut [u8], m: &[u32; 129], tick: u64)
         let old = record::slot_at(b, i);
         if may_change(old, tick) {
             let x = caught_slot(0 < m[i + 1], old, tick);
-            write::put_slot(b, (i + 1) as u32, x);
+            write::put_slot(b, ObjectId((i + 1) as u32), x);
         }
         i += 1;
     }
 }
 
 // Timers that came due by the tick fire, and a pulse that no thread waits on is lost. If none came due nothing is written.
-pub fn catch_up(b: &mut [u8], tick: u64)
+pub fn catch_up(b: &mut [u8], tick: Ticks)
     requires { ⌜ length (now b) ≡ 16384 ⌝ }
     requires { ⌜ sound? (now b) ≡ true ⌝ }
-    requires { ⌜ caughtUp (decBlock (now b)) tick .objects .overflow ≡ false ⌝ }
-    ensures { λ _. ⌜ decBlock (now (b .exit)) ≡ caughtUp (decBlock (now (b .entry))) tick ⌝ }
+    requires { ⌜ caughtUp (decBlock (now b)) (tick .0) .objects .overflow ≡ false ⌝ }
+    ensures { λ _. ⌜ decBlock (now (b .exit)) ≡ caughtUp (decBlock (now (b .entry))) (tick .0) ⌝ }
     ensures { λ _. ⌜ sound? (now (b .exit)) ≡ true ⌝ }
     ensures { λ _. ⌜ length (now (b .exit)) ≡ 16384 ⌝ }
 {

@@ -6,6 +6,7 @@ use rows::read;
 use rows::write;
 use thread::end;
 use types::thread::ThreadOption;
+use units::ObjectId;
 ghost use mathlib.Core.Path.{_≡_};
 ghost use mathlib.Core.Bool.{true, false};
 ghost use Prim.Native.Nat.{_+_, _<_};
@@ -32,7 +33,7 @@ fn disown(block: &mut [u8], t: u32)
     while i < 128 {
         let old = record::slot_at(block, i);
         if end::is_mutex(old) {
-            write::put_slot(block, (i + 1) as u32, end::disowned_slot(t, old));
+            write::put_slot(block, ObjectId((i + 1) as u32), end::disowned_slot(t, old));
         }
         i += 1;
     }

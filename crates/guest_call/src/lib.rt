@@ -3,6 +3,7 @@ use guest::bank;
 use guest::registers;
 use guest::window;
 use lent::questions;
+use units::Ticks;
 ghost use mathlib.Core.Path.{_≡_};
 ghost use mathlib.Core.List.{[]};
 ghost use Prim.Native.Nat.{_-_};
@@ -17,9 +18,9 @@ pub fn operate(
     window: &mut [u8],
     window_base: u32,
     number: u32,
-    tick: u64,
+    tick: Ticks,
 ) -> u32
-    ensures { λ r. ⌜ back r (lent (now (block .exit)) (now (bank .exit)) (now (processor .exit)) (now (window .exit)) []) ≡ def.dispatch «window_base» number tick (lent (now (block .entry)) (now (bank .entry)) (now (processor .entry)) (now (window .entry)) []) ⌝ }
+    ensures { λ r. ⌜ back r (lent (now (block .exit)) (now (bank .exit)) (now (processor .exit)) (now (window .exit)) []) ≡ def.dispatch «window_base» number (tick .0) (lent (now (block .entry)) (now (bank .entry)) (now (processor .entry)) (now (window .entry)) []) ⌝ }
 {
     if block.len() != 16384 {
         return 1;

@@ -70,11 +70,12 @@ fn take_out(block: &mut [u8], i: usize)
     );
 }
 
-// The object loses a holder and the handle its entry; an unknown handle has no object.
-fn put_closed(block: &mut [u8], h: u32)
+// The object loses a holder and the handle its entry; an unknown handle has no object. The entry itself is taken out, so it is
+// found by its place and not by resolve, as the Rust's `close` removes it from its map.
+fn put_closed(block: &mut [u8], h: Handle)
     requires { ⌜ length (now block) ≡ 16384 ⌝ }
     requires { ⌜ sound? (now block) ≡ true ⌝ }
-    ensures { λ _. ⌜ Holds (now (block .exit)) (withHandles (decBlock (now (block .entry))) (close (decBlock (now (block .entry)) .handles) (decBlock (now (block .entry)) .objects) h .table) (close (decBlock (now (block .entry)) .handles) (decBlock (now (block .entry)) .objects) h .store)) ⌝ }
+    ensures { λ _. ⌜ Holds (now (block .exit)) (withHandles (decBlock (now (block .entry))) (close (decBlock (now (block .entry)) .handles) (decBlock (now (block .entry)) .objects) (h .0) .table) (close (decBlock (now (block .entry)) .handles) (decBlock (now (block .entry)) .objects) (h .0) .store)) ⌝ }
 {
     let i = read::place_of(block, h);
     if 256 <= i {
@@ -99,6 +100,6 @@ pub fn close_handle(block: &mut [u8], r: Registers) -> Outcome
     if outcome::out_of_handles(block) {
         return outcome::refused(8);
     }
-    put_closed(block, r.r0);
+    put_closed(block, Handle(r.r0));
     outcome::done()
 }

@@ -37,8 +37,8 @@ fn put_duplicate(block: &mut [u8], o: ObjectId)
     let q = head.b;
     let c = head.c;
     let d = head.d;
-    let old = read::slot_at(block, o.0);
-    write::put_slot(block, o.0, object::store::held(old));
+    let old = read::slot_at(block, o);
+    write::put_slot(block, o, object::store::held(old));
     write::put_entry(
         block,
         c.2,
@@ -67,10 +67,10 @@ fn without_room(block: &[u8], r: Registers, found: u32) -> Outcome
     ensures { λ o. ⌜ o ≡ outcome (def.duplicateHandle (decBlock (now (block .entry))) r) ⌝ }
     ensures { λ _. ⌜ now (block .entry) ≡ left (def.duplicateHandle (decBlock (now (block .entry))) r) (now (block .entry)) ⌝ }
 {
-    if open::no_room(block, r.r1) {
+    if open::no_room(block, Handle(r.r1)) {
         return outcome::refused(7);
     }
-    if open::names(block, r.r1) {
+    if open::names(block, Handle(r.r1)) {
         return outcome::refused(found);
     }
     if outcome::out_of_handles(block) {
@@ -91,7 +91,7 @@ pub fn duplicate_handle(block: &mut [u8], r: Registers) -> Outcome
     if room != 0 {
         return without_room(block, r, room);
     }
-    let a = open::open(block, r.r1);
+    let a = open::resolve(block, Handle(r.r1));
     if a.found != 0 {
         return outcome::refused(a.found);
     }

@@ -1,5 +1,7 @@
 // The C interface: every export, with its whole contract. An export is lent byte slices and returns one number: 0, a kernel answer, or a
 // refusal. lent/specs has the definitions.
+use units::Handle;
+use units::Ticks;
 ghost use mathlib.Core.Path.{_≡_};
 ghost use mathlib.Core.List.{[]};
 ghost use Rattle.lent.specs.Lent.{lent, back};
@@ -51,7 +53,7 @@ pub extern "C" fn kernel_schedule(
 ) -> u32
     ensures { λ r. ⌜ back r (lent (now (block .exit)) (now (bank .exit)) (now (processor .exit)) [] (now (answer .exit))) ≡ def.schedule tick (lent (now (block .entry)) (now (bank .entry)) (now (processor .entry)) [] (now (answer .entry))) ⌝ }
 {
-    schedule::operate(block, bank, processor, answer, tick)
+    schedule::operate(block, bank, processor, answer, Ticks(tick))
 }
 
 // The earliest tick that a blocked thread or a timer wants a pass at.
@@ -73,7 +75,7 @@ pub extern "C" fn kernel_satisfied_now(
 ) -> u32
     ensures { λ r. ⌜ back r (lent (now (block .entry)) [] [] [] (now (answer .exit))) ≡ def.satisfiedNow (now (handles .entry)) «wait_all» tick (lent (now (block .entry)) [] [] [] (now (answer .entry))) ⌝ }
 {
-    satisfied_now::operate(block, handles, answer, wait_all, tick)
+    satisfied_now::operate(block, handles, answer, wait_all, Ticks(tick))
 }
 
 // The mutex that the handle lets go of, and whether that frees it, if no pass is needed after it.
@@ -86,7 +88,7 @@ pub extern "C" fn kernel_quiet_release(
 ) -> u32
     ensures { λ r. ⌜ back r (lent (now (block .entry)) [] [] [] (now (answer .exit))) ≡ def.quietRelease handle tick (lent (now (block .entry)) [] [] [] (now (answer .entry))) ⌝ }
 {
-    quiet_release::operate(block, answer, handle, tick)
+    quiet_release::operate(block, answer, Handle(handle), Ticks(tick))
 }
 
 // A thread ends at the host's wish.
@@ -110,7 +112,15 @@ pub extern "C" fn kernel_dispatch(
 ) -> u32
     ensures { λ r. ⌜ back r (lent (now (block .exit)) (now (bank .exit)) (now (processor .exit)) (now (window .exit)) []) ≡ guest.dispatch «window_base» number tick (lent (now (block .entry)) (now (bank .entry)) (now (processor .entry)) (now (window .entry)) []) ⌝ }
 {
-    guest_call::operate(block, bank, processor, window, window_base, number, tick)
+    guest_call::operate(
+        block,
+        bank,
+        processor,
+        window,
+        window_base,
+        number,
+        Ticks(tick),
+    )
 }
 
 // The current thread's recorded result of a wait, handed out once.

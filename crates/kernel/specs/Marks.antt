@@ -34,7 +34,7 @@ listsIf ts = map listIf ts
 
 -- the tick in two words
 abbrev pub option : Earliest → TickOption
-option e = cond (eqb (e .found) 0) NoTick (SomeTick (record { 0 = e .tick }))
+option e = cond (eqb (e .found) 0) NoTick (SomeTick (e .tick))
 
 unfoldable pub dueMarked : List ℕ → TickOption → ℕ → List Slot → TickOption
 dueMarked m best o [] = best

@@ -14,16 +14,19 @@ ghost use Rattle.kernel.specs.Marks.{listIf, option};
 // The earliest tick so far, if found is not 0. Words and no enum, since an enum that goes round a loop is copied part by part at each turn.
 pub struct Earliest {
     pub found: u64,
-    pub tick: u64,
+    pub tick: Ticks,
 }
 
-fn earlier_of(best: Earliest, at: u64) -> Earliest
-    ensures { λ r. ⌜ option r ≡ earlier (option best) (TickOption.SomeTick (record { 0 = at })) ⌝ }
+fn earlier_of(best: Earliest, at: Ticks) -> Earliest
+    ensures { λ r. ⌜ option r ≡ earlier (option best) (TickOption.SomeTick at) ⌝ }
 {
+    let n = at.0;
+    let first = best.tick;
+    let m = first.0;
     if best.found == 0 {
         return Earliest { found: 1, tick: at };
     }
-    if at < best.tick {
+    if n < m {
         return Earliest { found: 1, tick: at };
     }
     best
@@ -34,7 +37,7 @@ pub fn earlier_option(best: Earliest, at: TickOption) -> Earliest
 {
     match at {
         TickOption::NoTick => best,
-        TickOption::SomeTick(t) => earlier_of(best, t.0),
+        TickOption::SomeTick(t) => earlier_of(best, t),
     }
 }
 
@@ -90,5 +93,6 @@ pub fn option_of(e: Earliest) -> TickOption
     if e.found == 0 {
         return TickOption::NoTick;
     }
-    TickOption::SomeTick(Ticks(e.tick))
+    let t = e.tick;
+    TickOption::SomeTick(t)
 }

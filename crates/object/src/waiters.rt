@@ -201,8 +201,8 @@ pub fn join(threads: [u32; 64], addresses: [u32; 64], nexts: [u32; 64]) -> [Wait
 }
 
 // Only an arbiter has a chain.
-pub fn with_head(o: KObject, h: u32) -> KObject
-    ensures { λ r. ⌜ r ≡ def.withHead o h ⌝ }
+pub fn with_head(o: KObject, first: u32) -> KObject
+    ensures { λ r. ⌜ r ≡ def.withHead o first ⌝ }
 {
     match o {
         KObject::Free(n) => KObject::Free(n),
@@ -211,7 +211,7 @@ pub fn with_head(o: KObject, h: u32) -> KObject
         KObject::Mutex(m) => KObject::Mutex(m),
         KObject::Semaphore(s) => KObject::Semaphore(s),
         KObject::Timer(t) => KObject::Timer(t),
-        KObject::AddressArbiter(_a) => KObject::AddressArbiter(AddressArbiter { waiters: h }),
+        KObject::AddressArbiter(_a) => KObject::AddressArbiter(AddressArbiter { waiters: first }),
         KObject::Process => KObject::Process,
         KObject::ResourceLimit => KObject::ResourceLimit,
     }
@@ -233,11 +233,11 @@ pub fn is_arbiter(o: KObject) -> bool
     }
 }
 
-pub fn headed(s: Slot, h: u32) -> Slot
-    ensures { λ r. ⌜ r ≡ withObject s (def.withHead (s .object) h) ⌝ }
+pub fn headed(s: Slot, first: u32) -> Slot
+    ensures { λ r. ⌜ r ≡ withObject s (def.withHead (s .object) first) ⌝ }
 {
     let o = s.object;
-    let x = with_head(o, h);
+    let x = with_head(o, first);
     Slot {
         object: x,
         refcount: s.refcount,

@@ -15,7 +15,7 @@ pub fn content(block: &mut [u8], o: ObjectId, x: Slot, v: KObject)
 {
     write::put_slot(
         block,
-        o.0,
+        o,
         Slot {
             object: v,
             refcount: x.refcount,

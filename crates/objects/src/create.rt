@@ -35,13 +35,13 @@ fn put_created(block: &mut [u8], v: KObject)
     let q = head.b;
     let c = head.c;
     let d = head.d;
-    let old = read::slot_at(block, c.0);
+    let old = read::slot_at(block, ObjectId(c.0));
     let x = old.object;
     let mark = old.pulsed;
     let next = types::object::next_of(x);
     write::put_slot(
         block,
-        c.0,
+        ObjectId(c.0),
         Slot {
             object: v,
             refcount: 1,

@@ -6,6 +6,7 @@ use rows::write;
 use types::object::KObject;
 use types::object::Slot;
 use types::thread::ThreadOption;
+use units::Handle;
 use units::ObjectId;
 ghost use mathlib.Core.Path.{_≡_};
 ghost use mathlib.Core.Bool.{true};
@@ -30,22 +31,22 @@ pub struct Opened {
 }
 
 // A new object in the first free slot, and the number of the process's.
-fn put_inserted(block: &mut [u8], v: KObject, process: u32)
+fn put_inserted(block: &mut [u8], v: KObject, process: ObjectId)
     requires { ⌜ length (now block) ≡ 16384 ⌝ }
     requires { ⌜ sound? (now block) ≡ true ⌝ }
-    ensures { λ _. ⌜ Holds (now (block .exit)) (withObjects (decBlock (now (block .entry))) (withProcess (insert (decBlock (now (block .entry)) .objects) v) (record { 0 = process }))) ⌝ }
+    ensures { λ _. ⌜ Holds (now (block .exit)) (withObjects (decBlock (now (block .entry))) (withProcess (insert (decBlock (now (block .entry)) .objects) v) process)) ⌝ }
 {
     let head = block::get_head(block);
     let p = head.a;
     let q = head.b;
     let c = head.c;
-    let old = read::slot_at(block, c.0);
+    let old = read::slot_at(block, ObjectId(c.0));
     let x = old.object;
     let mark = old.pulsed;
     let next = types::object::next_of(x);
     write::put_slot(
         block,
-        c.0,
+        ObjectId(c.0),
         Slot {
             object: v,
             refcount: 1,
@@ -58,7 +59,7 @@ fn put_inserted(block: &mut [u8], v: KObject, process: u32)
             a: p,
             b: q,
             c: Four(next, c.1, c.2, c.3),
-            d: Four(process, 0, 0, 0),
+            d: Four(process.0, 0, 0, 0),
         },
     );
 }
@@ -84,11 +85,11 @@ fn found_making(block: &[u8]) -> u32
 }
 
 // A number past the places keeps no object.
-fn kept_after(t: u32, o: u32) -> ObjectId
-    ensures { λ r. ⌜ r .0 ≡ pick (ltb t 32) o 0 ⌝ }
+fn kept_after(t: u32, o: ObjectId) -> ObjectId
+    ensures { λ r. ⌜ r .0 ≡ pick (ltb t 32) (o .0) 0 ⌝ }
 {
     if t < 32 {
-        return ObjectId(o);
+        return o;
     }
     ObjectId(0)
 }
@@ -112,10 +113,10 @@ fn open_thread(block: &mut [u8], t: u32) -> Opened
     }
     let free = codec::get32(block, 32);
     let process = codec::get32(block, 48);
-    put_inserted(block, KObject::Thread(t), process);
+    put_inserted(block, KObject::Thread(t), ObjectId(process));
     write::put_kept(block, t, ObjectId(free));
     Opened {
-        object: kept_after(t, free),
+        object: kept_after(t, ObjectId(free)),
         found: 0,
     }
 }
@@ -138,7 +139,7 @@ fn open_process(block: &mut [u8]) -> Opened
         };
     }
     let free = codec::get32(block, 32);
-    put_inserted(block, KObject::Process, free);
+    put_inserted(block, KObject::Process, ObjectId(free));
     Opened {
         object: ObjectId(free),
         found: 0,
@@ -158,20 +159,21 @@ fn open_current(block: &mut [u8], current: ThreadOption) -> Opened
 }
 
 // With a finding the block stays as it is, and the object is left open: the callers refuse then.
-pub fn open(block: &mut [u8], h: u32) -> Opened
+pub fn resolve(block: &mut [u8], h: Handle) -> Opened
     requires { ⌜ length (now block) ≡ 16384 ⌝ }
     requires { ⌜ sound? (now block) ≡ true ⌝ }
-    ensures { λ r. ⌜ Opens (decBlock (now (block .entry))) (resolved (decBlock (now (block .entry))) h) (now (block .entry)) (now (block .exit)) r ⌝ }
+    ensures { λ r. ⌜ Opens (decBlock (now (block .entry))) (resolved (decBlock (now (block .entry))) (h .0)) (now (block .entry)) (now (block .exit)) r ⌝ }
     ensures { λ _. ⌜ sound? (now (block .exit)) ≡ true ⌝ }
 {
-    if h == 0xFFFF8000 {
+    let n = h.0;
+    if n == 0xFFFF8000 {
         let current = read::current(block);
         return open_current(block, current);
     }
-    if h == 0xFFFF8001 {
+    if n == 0xFFFF8001 {
         return open_process(block);
     }
-    let o = read::object_of(block, h);
+    let o = read::resolve(block, h);
     there(block, o)
 }
 
@@ -189,24 +191,25 @@ fn makes_current(block: &[u8], current: ThreadOption) -> bool
 }
 
 // The object of the handle is yet to be made.
-pub fn makes(block: &[u8], h: u32) -> bool
+pub fn makes(block: &[u8], h: Handle) -> bool
     requires { ⌜ length (now block) ≡ 16384 ⌝ }
-    ensures { λ r. ⌜ r ≡ def.makes (decBlock (now (block .entry))) h ⌝ }
+    ensures { λ r. ⌜ r ≡ def.makes (decBlock (now (block .entry))) (h .0) ⌝ }
 {
-    if h == 0xFFFF8000 {
+    let n = h.0;
+    if n == 0xFFFF8000 {
         let current = read::current(block);
         return makes_current(block, current);
     }
-    if h == 0xFFFF8001 {
+    if n == 0xFFFF8001 {
         return codec::get32(block, 48) == 0;
     }
     false
 }
 
 // It is, and no slot is free. For a call that writes before it opens the handle.
-pub fn no_room(block: &[u8], h: u32) -> bool
+pub fn no_room(block: &[u8], h: Handle) -> bool
     requires { ⌜ length (now block) ≡ 16384 ⌝ }
-    ensures { λ r. ⌜ r ≡ noRoom (decBlock (now (block .entry))) h ⌝ }
+    ensures { λ r. ⌜ r ≡ noRoom (decBlock (now (block .entry))) (h .0) ⌝ }
 {
     if codec::get32(block, 32) != 0 {
         return false;
@@ -215,17 +218,18 @@ pub fn no_room(block: &[u8], h: u32) -> bool
 }
 
 // Whether the handle names an object once it is open.
-pub fn names(block: &[u8], h: u32) -> bool
+pub fn names(block: &[u8], h: Handle) -> bool
     requires { ⌜ length (now block) ≡ 16384 ⌝ }
-    ensures { λ r. ⌜ r ≡ named (decBlock (now (block .entry)) .«current_thread») (decBlock (now (block .entry)) .handles) h ⌝ }
+    ensures { λ r. ⌜ r ≡ named (decBlock (now (block .entry)) .«current_thread») (decBlock (now (block .entry)) .handles) (h .0) ⌝ }
 {
-    if h == 0xFFFF8000 {
+    let n = h.0;
+    if n == 0xFFFF8000 {
         let current = read::current(block);
         return types::thread::thread_flag(current) != 0;
     }
-    if h == 0xFFFF8001 {
+    if n == 0xFFFF8001 {
         return true;
     }
-    let o = read::object_of(block, h);
+    let o = read::resolve(block, h);
     o.0 != 0
 }

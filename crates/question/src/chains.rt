@@ -120,7 +120,7 @@ fn mark_apart<'a>(
     mark_apart(nx, ts, m, seen, mark, n, next, left - 1, still)
 }
 
-// mark_apart for the chain from h, which may be 0. found is what the chains before gave, 1 or 2, and 2 stays.
+// mark_apart for the chain from head, which may be 0. found is what the chains before gave, 1 or 2, and 2 stays.
 // m and seen are left open as there, and so is what a chain that gives 2 has.
 pub fn mark_head<'a>(
     nx: &'a [u32; 128],
@@ -129,23 +129,23 @@ pub fn mark_head<'a>(
     seen: &mut [u32; 32],
     mark: u32,
     n: u32,
-    h: u32,
+    head: u32,
     found: u32,
 ) -> u32
     requires { ⌜ length (take 64 (now nx)) ≡ 64 ⌝ }
     requires { ⌜ length (now seen) ≡ 32 ⌝ }
     requires { ⌜ 0 < found ⌝ }
-    ensures { λ r. ⌜ (r ≡ 0 → lone? (take 64 (now (nx .entry))) (now (m .entry)) 64 h ≡ false) ⌝ }
-    ensures { λ r. ⌜ (r ≢ 0 → lone? (take 64 (now (nx .entry))) (now (m .entry)) 64 h ≡ true) ⌝ }
-    ensures { λ r. ⌜ (r ≢ 0 → now (m .exit) ≡ tally 129 (now (m .entry)) (walk (take 64 (now (nx .entry))) 64 h)) ⌝ }
+    ensures { λ r. ⌜ (r ≡ 0 → lone? (take 64 (now (nx .entry))) (now (m .entry)) 64 head ≡ false) ⌝ }
+    ensures { λ r. ⌜ (r ≢ 0 → lone? (take 64 (now (nx .entry))) (now (m .entry)) 64 head ≡ true) ⌝ }
+    ensures { λ r. ⌜ (r ≢ 0 → now (m .exit) ≡ tally 129 (now (m .entry)) (walk (take 64 (now (nx .entry))) 64 head)) ⌝ }
     ensures { λ r. ⌜ (r ≡ 1 → found ≡ 1) ⌝ }
-    ensures { λ r. ⌜ (r ≡ 1 → ((ad : List ℕ) → chain? (take 64 (now (ts .entry))) ad n (walk (take 64 (now (nx .entry))) 64 h) ≡ true)) ⌝ }
+    ensures { λ r. ⌜ (r ≡ 1 → ((ad : List ℕ) → chain? (take 64 (now (ts .entry))) ad n (walk (take 64 (now (nx .entry))) 64 head) ≡ true)) ⌝ }
     ensures { λ _. ⌜ length (now (seen .exit)) ≡ 32 ⌝ }
 {
-    if h == 0 {
+    if head == 0 {
         return found;
     }
-    mark_apart(nx, ts, m, seen, mark, n, h, 64, found == 1)
+    mark_apart(nx, ts, m, seen, mark, n, head, 64, found == 1)
 }
 
 // Whether a record of the chain from at is that of thread t and address a.

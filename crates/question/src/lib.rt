@@ -9,6 +9,7 @@ pub mod records;
 pub mod threads;
 pub mod tls;
 
+use units::Handle;
 use units::ObjectId;
 ghost use mathlib.Core.Path.{_≡_};
 ghost use mathlib.Core.Bool.{true};
@@ -33,7 +34,7 @@ fn tables_ok(b: &[u8], c: &mut [u32; 129]) -> bool
     let q = head.b;
     let r = head.c;
     let current = types::thread::thread_option(p.2, p.3);
-    if !handles::handles_ok(b, c, r.2, r.3) {
+    if !handles::handles_ok(b, c, r.2, Handle(r.3)) {
         return false;
     }
     names::tally_lists(c, b);

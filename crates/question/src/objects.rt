@@ -118,10 +118,11 @@ fn held_ok<'a>(
     slots_ok(ks, rs, c, &m)
 }
 
-// The number kept for thread t, and the kind and the thread of what stands at its index.
-fn kept_thread(x: u32, kind: u32, named: u32, t: u32) -> bool
-    ensures { λ r. ⌜ r ≡ keptThread? x kind named t ⌝ }
+// The object kept for thread t, and the kind and the thread of what stands at its index.
+fn kept_thread(o: ObjectId, kind: u32, named: u32, t: u32) -> bool
+    ensures { λ r. ⌜ r ≡ keptThread? (o .0) kind named t ⌝ }
 {
+    let x = o.0;
     if x == 0 {
         return true;
     }
@@ -134,9 +135,10 @@ fn kept_thread(x: u32, kind: u32, named: u32, t: u32) -> bool
     named == t
 }
 
-fn kept_process(x: u32, kind: u32) -> bool
-    ensures { λ r. ⌜ r ≡ keptProcess? x kind ⌝ }
+fn kept_process(o: ObjectId, kind: u32) -> bool
+    ensures { λ r. ⌜ r ≡ keptProcess? (o .0) kind ⌝ }
 {
+    let x = o.0;
     if x == 0 {
         return true;
     }
@@ -153,9 +155,8 @@ fn kept_threads_ok<'a>(ks: &'a [u32; 128], ts: &'a [u32; 128], b: &'a [u8]) -> b
     let mut t: u32 = 32;
     while 0 < t {
         let k = block::record::kept_at(b, (t - 1) as usize);
-        let x = k.0;
-        let i = tally::place::slot_index(x);
-        if !kept_thread(x, ks[i], ts[i], t - 1) {
+        let i = tally::place::slot_index(k);
+        if !kept_thread(k, ks[i], ts[i], t - 1) {
             return false;
         }
         t -= 1;
@@ -168,11 +169,10 @@ fn kept_ok<'a>(ks: &'a [u32; 128], ts: &'a [u32; 128], b: &'a [u8], process: Obj
     requires { ⌜ length (now b) ≡ 16384 ⌝ }
     ensures { λ r. ⌜ r ≡ keptBy? (now (ks .entry)) (now (ts .entry)) (ids (keptIn (now (b .entry)))) (process .0) ⌝ }
 {
-    let x = process.0;
     if !kept_threads_ok(ks, ts, b) {
         return false;
     }
-    kept_process(x, ks[tally::place::slot_index(x)])
+    kept_process(process, ks[tally::place::slot_index(process)])
 }
 
 fn dead_mark(s: ThreadStatus) -> u32

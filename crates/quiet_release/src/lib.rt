@@ -4,6 +4,8 @@ pub mod quiet;
 use codec::Two;
 use lent::questions;
 use pass::Release;
+use units::Handle;
+use units::Ticks;
 ghost use mathlib.Core.Path.{_≡_};
 ghost use mathlib.Core.List.{[]};
 ghost use lib.ListN.{length};
@@ -52,8 +54,8 @@ fn put_release(answer: &mut [u8], r: Release)
 }
 
 // The mutex that the handle lets go of, and whether that frees it, if no pass is needed after it.
-pub fn operate(block: &[u8], answer: &mut [u8], handle: u32, tick: u64) -> u32
-    ensures { λ r. ⌜ back r (lent (now (block .entry)) [] [] [] (now (answer .exit))) ≡ def.quietRelease handle tick (lent (now (block .entry)) [] [] [] (now (answer .entry))) ⌝ }
+pub fn operate(block: &[u8], answer: &mut [u8], handle: Handle, tick: Ticks) -> u32
+    ensures { λ r. ⌜ back r (lent (now (block .entry)) [] [] [] (now (answer .exit))) ≡ def.quietRelease (handle .0) (tick .0) (lent (now (block .entry)) [] [] [] (now (answer .entry))) ⌝ }
 {
     if block.len() != 16384 {
         return 1;

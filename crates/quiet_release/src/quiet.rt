@@ -10,7 +10,9 @@ use types::sync::Mutex;
 use types::thread::Thread;
 use types::thread::ThreadOption;
 use types::thread::ThreadStatus;
+use units::Handle;
 use units::ObjectId;
+use units::Ticks;
 ghost use mathlib.Core.Path.{_≡_};
 ghost use mathlib.Core.Bool.{not};
 ghost use lib.Dec.{eqb, leb};
@@ -25,8 +27,8 @@ ghost use Rattle.pass.specs.Asks as def;
 ghost use Rattle.quiet_release.specs.Alone.{alone};
 
 // The thread is Running, has not waited, is not starving, and has no result or call left.
-fn runs_alone(t: Thread, tick: u64) -> bool
-    ensures { λ r. ⌜ r ≡ alone t tick ⌝ }
+fn runs_alone(t: Thread, tick: Ticks) -> bool
+    ensures { λ r. ⌜ r ≡ alone t (tick .0) ⌝ }
 {
     let s = t.status;
     let result = t.wait_result;
@@ -47,9 +49,9 @@ fn runs_alone(t: Thread, tick: u64) -> bool
 }
 
 // No pulse waits for a pass, and no timer is due.
-fn none_due(b: &[u8], tick: u64) -> bool
+fn none_due(b: &[u8], tick: Ticks) -> bool
     requires { ⌜ length (now b) ≡ 16384 ⌝ }
-    ensures { λ r. ⌜ r ≡ (not (anyPulsed (decBlock (now (b .entry)) .objects .slots)) and not (timerDue tick (decBlock (now (b .entry)) .objects .slots))) ⌝ }
+    ensures { λ r. ⌜ r ≡ (not (anyPulsed (decBlock (now (b .entry)) .objects .slots)) and not (timerDue (tick .0) (decBlock (now (b .entry)) .objects .slots))) ⌝ }
 {
     let mut i: usize = 0;
     while i < 128 {
@@ -71,15 +73,15 @@ fn not_urgent(c: u32, p: u32, i: u32, t: Thread) -> bool
     p <= t.priority
 }
 
-fn not_waiting(o: u32, t: Thread) -> bool
-    ensures { λ r. ⌜ r ≡ not (contains (ids (t .«wait_objects»)) o) ⌝ }
+fn not_waiting(o: ObjectId, t: Thread) -> bool
+    ensures { λ r. ⌜ r ≡ not (contains (ids (t .«wait_objects»)) (o .0)) ⌝ }
 {
     let l = t.wait_objects;
     !event::contains_id(l, o)
 }
 
-fn calm_as(o: u32, c: u32, p: u32, i: u32, t: Thread, s: ThreadStatus) -> bool
-    ensures { λ r. ⌜ r ≡ def.calm o c p i t s ⌝ }
+fn calm_as(o: ObjectId, c: u32, p: u32, i: u32, t: Thread, s: ThreadStatus) -> bool
+    ensures { λ r. ⌜ r ≡ def.calm (o .0) c p i t s ⌝ }
 {
     match s {
         ThreadStatus::Dead => true,
@@ -92,16 +94,16 @@ fn calm_as(o: u32, c: u32, p: u32, i: u32, t: Thread, s: ThreadStatus) -> bool
     }
 }
 
-fn calm(o: u32, c: u32, p: u32, i: u32, t: Thread) -> bool
-    ensures { λ r. ⌜ r ≡ def.calm o c p i t (t .status) ⌝ }
+fn calm(o: ObjectId, c: u32, p: u32, i: u32, t: Thread) -> bool
+    ensures { λ r. ⌜ r ≡ def.calm (o .0) c p i t (t .status) ⌝ }
 {
     let s = t.status;
     calm_as(o, c, p, i, t, s)
 }
 
-fn all_calm(b: &[u8], o: u32, c: u32, p: u32) -> bool
+fn all_calm(b: &[u8], o: ObjectId, c: u32, p: u32) -> bool
     requires { ⌜ length (now b) ≡ 16384 ⌝ }
-    ensures { λ r. ⌜ r ≡ def.calmFrom o c p 0 (decBlock (now (b .entry)) .threads) ⌝ }
+    ensures { λ r. ⌜ r ≡ def.calmFrom (o .0) c p 0 (decBlock (now (b .entry)) .threads) ⌝ }
 {
     let mut i: usize = 0;
     while i < 32 {
@@ -115,9 +117,9 @@ fn all_calm(b: &[u8], o: u32, c: u32, p: u32) -> bool
 }
 
 // A number past the places names no thread.
-fn frees_at(c: u32, b: &[u8], o: u32, tick: u64) -> Release
+fn frees_at(c: u32, b: &[u8], o: ObjectId, tick: Ticks) -> Release
     requires { ⌜ length (now b) ≡ 16384 ⌝ }
-    ensures { λ r. ⌜ r ≡ def.freesQuietly (ThreadOption.SomeThread c) (decBlock (now (b .entry))) o tick ⌝ }
+    ensures { λ r. ⌜ r ≡ def.freesQuietly (ThreadOption.SomeThread c) (decBlock (now (b .entry))) (o .0) (tick .0) ⌝ }
 {
     if 32 <= c {
         return Release::NotQuiet;
@@ -132,12 +134,12 @@ fn frees_at(c: u32, b: &[u8], o: u32, tick: u64) -> Release
     if !all_calm(b, o, c, t.priority) {
         return Release::NotQuiet;
     }
-    Release::Frees(ObjectId(o))
+    Release::Frees(o)
 }
 
-fn frees_quietly(current: ThreadOption, b: &[u8], o: u32, tick: u64) -> Release
+fn frees_quietly(current: ThreadOption, b: &[u8], o: ObjectId, tick: Ticks) -> Release
     requires { ⌜ length (now b) ≡ 16384 ⌝ }
-    ensures { λ r. ⌜ r ≡ def.freesQuietly current (decBlock (now (b .entry))) o tick ⌝ }
+    ensures { λ r. ⌜ r ≡ def.freesQuietly current (decBlock (now (b .entry))) (o .0) (tick .0) ⌝ }
 {
     match current {
         ThreadOption::NoThread => Release::NotQuiet,
@@ -145,20 +147,20 @@ fn frees_quietly(current: ThreadOption, b: &[u8], o: u32, tick: u64) -> Release
     }
 }
 
-fn release_mutex(m: Mutex, b: &[u8], o: u32, tick: u64) -> Release
+fn release_mutex(m: Mutex, b: &[u8], o: ObjectId, tick: Ticks) -> Release
     requires { ⌜ length (now b) ≡ 16384 ⌝ }
-    ensures { λ r. ⌜ r ≡ def.releaseAs (KObject.Mutex m) (decBlock (now (b .entry))) o tick ⌝ }
+    ensures { λ r. ⌜ r ≡ def.releaseAs (KObject.Mutex m) (decBlock (now (b .entry))) (o .0) (tick .0) ⌝ }
 {
     if 1 < m.lock_count {
-        return Release::CountsDown(ObjectId(o));
+        return Release::CountsDown(o);
     }
     let current = read::current(b);
     frees_quietly(current, b, o, tick)
 }
 
-fn release_as(x: KObject, b: &[u8], o: u32, tick: u64) -> Release
+fn release_as(x: KObject, b: &[u8], o: ObjectId, tick: Ticks) -> Release
     requires { ⌜ length (now b) ≡ 16384 ⌝ }
-    ensures { λ r. ⌜ r ≡ def.releaseAs x (decBlock (now (b .entry))) o tick ⌝ }
+    ensures { λ r. ⌜ r ≡ def.releaseAs x (decBlock (now (b .entry))) (o .0) (tick .0) ⌝ }
 {
     match x {
         KObject::Free(_n) => Release::NotQuiet,
@@ -173,12 +175,12 @@ fn release_as(x: KObject, b: &[u8], o: u32, tick: u64) -> Release
     }
 }
 
-pub fn quiet_release(b: &[u8], h: u32, tick: u64) -> Release
+pub fn quiet_release(b: &[u8], h: Handle, tick: Ticks) -> Release
     requires { ⌜ length (now b) ≡ 16384 ⌝ }
-    ensures { λ r. ⌜ r ≡ def.quietRelease (decBlock (now (b .entry))) h tick ⌝ }
+    ensures { λ r. ⌜ r ≡ def.quietRelease (decBlock (now (b .entry))) (h .0) (tick .0) ⌝ }
 {
     let o = open::open_object(b, h);
-    let slot = read::slot_at(b, o.0);
+    let slot = read::slot_at(b, o);
     let x = slot.object;
-    release_as(x, b, o.0, tick)
+    release_as(x, b, o, tick)
 }

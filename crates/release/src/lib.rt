@@ -56,7 +56,7 @@ fn free_slot(block: &mut [u8], o: ObjectId, old: Slot)
     let free = free_records(block, types::object::head_of(x), c.1);
     write::put_slot(
         block,
-        o.0,
+        o,
         Slot {
             object: KObject::Free(c.0),
             refcount: 0,
@@ -81,7 +81,7 @@ pub fn release(block: &mut [u8], o: ObjectId)
     ensures { λ _. ⌜ decBlock (now (block .exit)) ≡ withThreads (decBlock (now (block .entry))) (decBlock (now (block .entry)) .threads) (def.release (decBlock (now (block .entry)) .objects) (o .0)) ⌝ }
     ensures { λ _. ⌜ Encoded (now (block .exit)) ⌝ }
 {
-    let old = read::slot_at(block, o.0);
+    let old = read::slot_at(block, o);
     let x = old.object;
     let kind = types::object::kind_number(x);
     if kind == 0 {
@@ -94,7 +94,7 @@ pub fn release(block: &mut [u8], o: ObjectId)
     }
     write::put_slot(
         block,
-        o.0,
+        o,
         Slot {
             object: x,
             refcount: n - 1,

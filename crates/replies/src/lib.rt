@@ -3,12 +3,14 @@
 use sample::fnv;
 use sample::memory;
 use sample::memory::least;
+use units::Handle;
+use units::Ticks;
 
 // What an operation returned, and the hash of the answer slice that it was lent.
 pub struct Answer(pub u32, pub u32);
 
-pub fn tick(upper: u32, lower: u32) -> u64 {
-    (upper as u64) << 32 | lower as u64
+pub fn tick(upper: u32, lower: u32) -> Ticks {
+    Ticks((upper as u64) << 32 | lower as u64)
 }
 
 fn fresh(words: &[u32; 16], block: &mut [u8], bank: &mut [u8]) -> Answer {
@@ -70,7 +72,7 @@ fn ask_satisfied(words: &[u32; 16], block: &[u8]) -> Answer {
 fn quiet(words: &[u32; 16], block: &[u8]) -> Answer {
     let mut answer = [0xA5u8; 12];
     let at = tick(words[4], words[5]);
-    let code = quiet_release::operate(block, &mut answer, words[3], at);
+    let code = quiet_release::operate(block, &mut answer, Handle(words[3]), at);
     Answer(code, fnv::hash(fnv::start(), &answer))
 }
 

@@ -5,6 +5,7 @@ use types::object::KObject;
 use types::object::Slot;
 use types::thread::Thread;
 use types::thread::ThreadOption;
+use units::Handle;
 use units::ObjectId;
 ghost use mathlib.Core.Path.{_≡_};
 ghost use Prim.Native.Nat.{_<_};
@@ -40,9 +41,9 @@ fn no_slot() -> Slot
 }
 
 // A number that no slot has reads as a dead slot.
-pub fn slot_at(b: &[u8], o: u32) -> Slot
+pub fn slot_at(b: &[u8], o: ObjectId) -> Slot
     requires { ⌜ length (now b) ≡ 16384 ⌝ }
-    ensures { λ r. ⌜ r ≡ slotAt (decBlock (now (b .entry)) .objects .slots) o ⌝ }
+    ensures { λ r. ⌜ r ≡ slotAt (decBlock (now (b .entry)) .objects .slots) (o .0) ⌝ }
 {
     if !place::is_slot(o) {
         return no_slot();
@@ -62,15 +63,16 @@ pub fn kept_at(b: &[u8], t: u32) -> ObjectId
 }
 
 // The index of a handle among the entries, or 256.
-pub fn place_of(b: &[u8], h: u32) -> usize
+pub fn place_of(b: &[u8], h: Handle) -> usize
     requires { ⌜ length (now b) ≡ 16384 ⌝ }
-    ensures { λ r. ⌜ r ≡ placeOf (decBlock (now (b .entry)) .handles .entries) h ⌝ }
+    ensures { λ r. ⌜ r ≡ placeOf (decBlock (now (b .entry)) .handles .entries) (h .0) ⌝ }
 {
+    let n = h.0;
     let mut i: usize = 0;
     while i < 256 {
         let e = record::entry_at(b, i);
         let x = e.handle;
-        if x.0 == h {
+        if x.0 == n {
             return i;
         }
         i += 1;
@@ -78,10 +80,10 @@ pub fn place_of(b: &[u8], h: u32) -> usize
     i
 }
 
-// The object that a handle names, 0 if none.
-pub fn object_of(b: &[u8], h: u32) -> ObjectId
+// The object that a handle names in the table, 0 if none (`resolve` of object.rs).
+pub fn resolve(b: &[u8], h: Handle) -> ObjectId
     requires { ⌜ length (now b) ≡ 16384 ⌝ }
-    ensures { λ r. ⌜ r .0 ≡ objectOf (decBlock (now (b .entry)) .handles) h ⌝ }
+    ensures { λ r. ⌜ r .0 ≡ objectOf (decBlock (now (b .entry)) .handles) (h .0) ⌝ }
 {
     let i = place_of(b, h);
     if 256 <= i {

@@ -21,9 +21,9 @@ pub fn put_thread(b: &mut [u8], i: u32, x: Thread)
 }
 
 // Objects are numbered from 1.
-pub fn put_slot(b: &mut [u8], o: u32, x: Slot)
+pub fn put_slot(b: &mut [u8], o: ObjectId, x: Slot)
     requires { ⌜ length (now b) ≡ 16384 ⌝ }
-    ensures { λ _. ⌜ now (b .exit) ≡ def.slotPut (now (b .entry)) o x ⌝ }
+    ensures { λ _. ⌜ now (b .exit) ≡ def.slotPut (now (b .entry)) (o .0) x ⌝ }
 {
     if !place::is_slot(o) {
         return;

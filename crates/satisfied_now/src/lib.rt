@@ -5,6 +5,7 @@ use codec::Two;
 use lent::questions;
 use pass::IndexOption;
 use pass::Satisfied;
+use units::Ticks;
 ghost use mathlib.Core.Path.{_≡_};
 ghost use mathlib.Core.List.{[]};
 ghost use lib.ListN.{length};
@@ -42,8 +43,8 @@ fn put_satisfied(answer: &mut [u8], r: Satisfied)
 }
 
 // The eight object numbers, unused places 0, and the index that the wait gives.
-pub fn operate(block: &[u8], handles: &[u8], answer: &mut [u8], wait_all: u32, tick: u64) -> u32
-    ensures { λ r. ⌜ back r (lent (now (block .entry)) [] [] [] (now (answer .exit))) ≡ def.satisfiedNow (now (handles .entry)) «wait_all» tick (lent (now (block .entry)) [] [] [] (now (answer .entry))) ⌝ }
+pub fn operate(block: &[u8], handles: &[u8], answer: &mut [u8], wait_all: u32, tick: Ticks) -> u32
+    ensures { λ r. ⌜ back r (lent (now (block .entry)) [] [] [] (now (answer .exit))) ≡ def.satisfiedNow (now (handles .entry)) «wait_all» (tick .0) (lent (now (block .entry)) [] [] [] (now (answer .entry))) ⌝ }
 {
     if block.len() != 16384 {
         return 1;

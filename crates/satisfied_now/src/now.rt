@@ -4,7 +4,9 @@ use pass::IndexOption;
 use pass::Satisfied;
 use rows::read;
 use types::thread::ThreadOption;
+use units::Handle;
 use units::ObjectId;
+use units::Ticks;
 ghost use mathlib.Core.Path.{_≡_};
 ghost use mathlib.Core.List.{map};
 ghost use Prim.Native.Nat.{_*_, _≤_};
@@ -27,7 +29,7 @@ fn open_list(b: &[u8], list: &[u8], n: usize) -> [ObjectId; 8]
     let mut l = [none; 8];
     let mut i: usize = 0;
     while i < n {
-        l[i] = open::open_object(b, codec::get32(list, i * 4));
+        l[i] = open::open_object(b, Handle(codec::get32(list, i * 4)));
         i += 1;
     }
     l
@@ -82,10 +84,10 @@ fn satisfied_for(b: &[u8], c: u32, l: [ObjectId; 8], n: usize, all: bool) -> Sat
     found_as(found, l)
 }
 
-fn satisfied_by(c: u32, b: &[u8], list: &[u8], n: usize, all: bool, tick: u64) -> Satisfied
+fn satisfied_by(c: u32, b: &[u8], list: &[u8], n: usize, all: bool, tick: Ticks) -> Satisfied
     requires { ⌜ length (now b) ≡ 16384 ⌝ }
     requires { ⌜ n * 4 ≤ length (now list) ⌝ }
-    ensures { λ r. ⌜ r ≡ def.satisfiedBy (ThreadOption.SomeThread c) (decBlock (now (b .entry))) (decAll num 4 n (now (list .entry)) 0) all tick ⌝ }
+    ensures { λ r. ⌜ r ≡ def.satisfiedBy (ThreadOption.SomeThread c) (decBlock (now (b .entry))) (decAll num 4 n (now (list .entry)) 0) all (tick .0) ⌝ }
 {
     if 8 < n {
         return unsatisfied();
@@ -103,11 +105,11 @@ fn satisfied_as(
     list: &[u8],
     n: usize,
     all: bool,
-    tick: u64,
+    tick: Ticks,
 ) -> Satisfied
     requires { ⌜ length (now b) ≡ 16384 ⌝ }
     requires { ⌜ n * 4 ≤ length (now list) ⌝ }
-    ensures { λ r. ⌜ r ≡ def.satisfiedBy current (decBlock (now (b .entry))) (decAll num 4 n (now (list .entry)) 0) all tick ⌝ }
+    ensures { λ r. ⌜ r ≡ def.satisfiedBy current (decBlock (now (b .entry))) (decAll num 4 n (now (list .entry)) 0) all (tick .0) ⌝ }
 {
     match current {
         ThreadOption::NoThread => unsatisfied(),
@@ -116,10 +118,10 @@ fn satisfied_as(
 }
 
 // The n handles of the list, four bytes each.
-pub fn satisfied_now(b: &[u8], list: &[u8], n: usize, all: bool, tick: u64) -> Satisfied
+pub fn satisfied_now(b: &[u8], list: &[u8], n: usize, all: bool, tick: Ticks) -> Satisfied
     requires { ⌜ length (now b) ≡ 16384 ⌝ }
     requires { ⌜ n * 4 ≤ length (now list) ⌝ }
-    ensures { λ r. ⌜ r ≡ def.satisfiedNow (decBlock (now (b .entry))) (decAll num 4 n (now (list .entry)) 0) all tick ⌝ }
+    ensures { λ r. ⌜ r ≡ def.satisfiedNow (decBlock (now (b .entry))) (decAll num 4 n (now (list .entry)) 0) all (tick .0) ⌝ }
 {
     let current = read::current(b);
     satisfied_as(current, b, list, n, all, tick)

@@ -5,6 +5,7 @@ use lent::questions;
 use rows::write;
 use scheduler::choose;
 use types::thread::ThreadOption;
+use units::Ticks;
 ghost use mathlib.Core.Path.{_≡_};
 ghost use mathlib.Core.Bool.{true, false};
 ghost use mathlib.Core.List.{[]};
@@ -120,12 +121,12 @@ fn head_after(h: Head, next: ThreadOption, relief: bool) -> Head
 // The pass up to its choice. True, with the block as it was, if a count does not fit: the tries are done in the block, and
 // only a later one may find that, so a copy is kept. No byte is left open: a sound block is the encoding of what
 // it decodes to.
-fn try_waits(block: &mut [u8], tick: u64) -> bool
+fn try_waits(block: &mut [u8], tick: Ticks) -> bool
     requires { ⌜ length (now block) ≡ 16384 ⌝ }
     requires { ⌜ sound? (now block) ≡ true ⌝ }
-    ensures { λ r. ⌜ r ≡ pass.tried (decBlock (now (block .entry))) tick .objects .overflow ⌝ }
+    ensures { λ r. ⌜ r ≡ pass.tried (decBlock (now (block .entry))) (tick .0) .objects .overflow ⌝ }
     ensures { λ r. ⌜ ((r ≡ true) → now (block .exit) ≡ now (block .entry)) ⌝ }
-    ensures { λ r. ⌜ ((r ≡ false) → decBlock (now (block .exit)) ≡ during (decBlock (now (block .entry))) (pass.tried (decBlock (now (block .entry))) tick)) ⌝ }
+    ensures { λ r. ⌜ ((r ≡ false) → decBlock (now (block .exit)) ≡ during (decBlock (now (block .entry))) (pass.tried (decBlock (now (block .entry))) (tick .0))) ⌝ }
     ensures { λ r. ⌜ ((r ≡ false) → sound? (now (block .exit)) ≡ true) ⌝ }
 {
     let mut before = [0u8; 16384];
@@ -143,9 +144,9 @@ pub fn operate(
     bank: &mut [u8],
     processor: &mut [u8],
     answer: &mut [u8],
-    tick: u64,
+    tick: Ticks,
 ) -> u32
-    ensures { λ r. ⌜ back r (lent (now (block .exit)) (now (bank .exit)) (now (processor .exit)) [] (now (answer .exit))) ≡ def.schedule tick (lent (now (block .entry)) (now (bank .entry)) (now (processor .entry)) [] (now (answer .entry))) ⌝ }
+    ensures { λ r. ⌜ back r (lent (now (block .exit)) (now (bank .exit)) (now (processor .exit)) [] (now (answer .exit))) ≡ def.schedule (tick .0) (lent (now (block .entry)) (now (bank .entry)) (now (processor .entry)) [] (now (answer .entry))) ⌝ }
 {
     if block.len() != 16384 {
         return 1;

@@ -2,6 +2,7 @@
 use crate::run;
 use types::thread::Thread;
 use types::thread::ThreadOption;
+use units::Ticks;
 ghost use mathlib.Core.Path.{_≡_};
 ghost use mathlib.Core.Bool.{not};
 ghost use Rattle.laws.specs.Logic.{_and_};
@@ -129,8 +130,8 @@ pub struct Turned {
 }
 
 // From the threads ts after the tries. In place: threads that are handed on would be copied.
-pub fn choose(ts: [Thread; 32], current: ThreadOption, relief: bool, tick: u64) -> Turned
-    ensures { λ r. ⌜ Chooses ts current relief tick r ⌝ }
+pub fn choose(ts: [Thread; 32], current: ThreadOption, relief: bool, tick: Ticks) -> Turned
+    ensures { λ r. ⌜ Chooses ts current relief (tick .0) r ⌝ }
 {
     let mut l = ts;
     let c = run::place_of(current);

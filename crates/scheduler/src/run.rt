@@ -92,18 +92,18 @@ pub fn mark_waited(c: ThreadOption, t: Thread) -> Thread
     t
 }
 
-fn begun(t: Thread, tick: u64) -> Thread
-    ensures { λ r. ⌜ r ≡ def.begun t tick ⌝ }
+fn begun(t: Thread, tick: Ticks) -> Thread
+    ensures { λ r. ⌜ r ≡ def.begun t (tick .0) ⌝ }
 {
     if t.waited {
-        return with_run(t, false, Ticks(tick));
+        return with_run(t, false, tick);
     }
     t
 }
 
 // A thread that has waited begins to run.
-pub fn begin_run(c: ThreadOption, t: Thread, tick: u64) -> Thread
-    ensures { λ r. ⌜ r ≡ pick (placed c) (def.begun t tick) t ⌝ }
+pub fn begin_run(c: ThreadOption, t: Thread, tick: Ticks) -> Thread
+    ensures { λ r. ⌜ r ≡ pick (placed c) (def.begun t (tick .0)) t ⌝ }
 {
     if is_placed(c) {
         return begun(t, tick);
@@ -112,17 +112,18 @@ pub fn begin_run(c: ThreadOption, t: Thread, tick: u64) -> Thread
 }
 
 // Longer than four frames; a tick before the start counts as none.
-pub fn starves(since: Ticks, tick: u64) -> bool
-    ensures { λ r. ⌜ r ≡ ltb def.starvationTicks (tick - since .0) ⌝ }
+pub fn starves(since: Ticks, tick: Ticks) -> bool
+    ensures { λ r. ⌜ r ≡ ltb def.starvationTicks ((tick .0) - since .0) ⌝ }
 {
-    if tick < since.0 {
+    let n = tick.0;
+    if n < since.0 {
         return false;
     }
-    17924544 < tick - since.0
+    17924544 < n - since.0
 }
 
-fn starves_placed(t: u32, v: Thread, tick: u64) -> bool
-    ensures { λ r. ⌜ r ≡ computed.starvesAt (ThreadOption.SomeThread t) v tick ⌝ }
+fn starves_placed(t: u32, v: Thread, tick: Ticks) -> bool
+    ensures { λ r. ⌜ r ≡ computed.starvesAt (ThreadOption.SomeThread t) v (tick .0) ⌝ }
 {
     if t < 32 {
         return starves(v.running_since, tick);
@@ -130,8 +131,8 @@ fn starves_placed(t: u32, v: Thread, tick: u64) -> bool
     starves(Ticks(0), tick)
 }
 
-pub fn starving(c: ThreadOption, v: Thread, tick: u64) -> bool
-    ensures { λ r. ⌜ r ≡ computed.starvesAt c v tick ⌝ }
+pub fn starving(c: ThreadOption, v: Thread, tick: Ticks) -> bool
+    ensures { λ r. ⌜ r ≡ computed.starvesAt c v (tick .0) ⌝ }
 {
     match c {
         ThreadOption::NoThread => false,

@@ -27,13 +27,14 @@ pub fn waits_sync(s: ThreadStatus) -> bool
     }
 }
 
-pub fn contains_id(l: [ObjectId; 8], o: u32) -> bool
-    ensures { λ r. ⌜ r ≡ contains (ids l) o ⌝ }
+pub fn contains_id(l: [ObjectId; 8], o: ObjectId) -> bool
+    ensures { λ r. ⌜ r ≡ contains (ids l) (o .0) ⌝ }
 {
+    let n = o.0;
     let mut i: usize = 0;
     while i < 8 {
         let x = l[i];
-        if x.0 == o {
+        if x.0 == n {
             return true;
         }
         i += 1;
@@ -42,8 +43,8 @@ pub fn contains_id(l: [ObjectId; 8], o: u32) -> bool
 }
 
 // The thread waits on the object.
-pub fn waits_on(t: Thread, o: u32) -> bool
-    ensures { λ r. ⌜ r ≡ (def.waitsSync (t .status) and contains (ids (t .«wait_objects»)) o) ⌝ }
+pub fn waits_on(t: Thread, o: ObjectId) -> bool
+    ensures { λ r. ⌜ r ≡ (def.waitsSync (t .status) and contains (ids (t .«wait_objects»)) (o .0)) ⌝ }
 {
     let s = t.status;
     if !waits_sync(s) {

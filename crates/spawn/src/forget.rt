@@ -66,7 +66,11 @@ fn drop_records(block: &mut [u8], t: u32)
                 64,
                 free,
             );
-            write::put_slot(block, (i + 1) as u32, waiters::headed(old, u.head));
+            write::put_slot(
+                block,
+                ObjectId((i + 1) as u32),
+                waiters::headed(old, u.head),
+            );
             free = u.free;
         }
         i += 1;

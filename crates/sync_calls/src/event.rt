@@ -8,6 +8,7 @@ use rows::write;
 use svc::Registers;
 use types::object::KObject;
 use types::sync::Event;
+use units::Handle;
 use units::ObjectId;
 ghost use mathlib.Core.Path.{_≡_};
 ghost use mathlib.Core.Bool.{true};
@@ -38,9 +39,9 @@ pub fn create_event(block: &mut [u8], r: Registers) -> Outcome
 }
 
 // Whether a thread waits on the object.
-fn waited_sync(block: &[u8], o: u32) -> bool
+fn waited_sync(block: &[u8], o: ObjectId) -> bool
     requires { ⌜ length (now block) ≡ 16384 ⌝ }
-    ensures { λ r. ⌜ r ≡ sig.waitedSync (decBlock (now (block .entry)) .threads) o ⌝ }
+    ensures { λ r. ⌜ r ≡ sig.waitedSync (decBlock (now (block .entry)) .threads) (o .0) ⌝ }
 {
     let mut i: u32 = 0;
     while i < 32 {
@@ -59,10 +60,10 @@ fn put_signaled(block: &mut [u8], o: ObjectId)
     requires { ⌜ sound? (now block) ≡ true ⌝ }
     ensures { λ _. ⌜ Holds (now (block .exit)) (withObjects (decBlock (now (block .entry))) (sig.signalEvent (decBlock (now (block .entry)) .objects) (decBlock (now (block .entry)) .threads) (o .0))) ⌝ }
 {
-    let waited = waited_sync(block, o.0);
-    let old = read::slot_at(block, o.0);
+    let waited = waited_sync(block, o);
+    let old = read::slot_at(block, o);
     let x = old.object;
-    write::put_slot(block, o.0, signal::event::signaled_slot(waited, old, x));
+    write::put_slot(block, o, signal::event::signaled_slot(waited, old, x));
 }
 
 // r0 handle; done for an object of another kind too.
@@ -72,7 +73,7 @@ pub fn signal_event(block: &mut [u8], r: Registers) -> Outcome
     ensures { λ o. ⌜ o ≡ outcome (def.signalEvent (decBlock (now (block .entry))) r) ⌝ }
     ensures { λ _. ⌜ now (block .exit) ≡ left (def.signalEvent (decBlock (now (block .entry))) r) (now (block .entry)) ⌝ }
 {
-    let a = open::open(block, r.r0);
+    let a = open::resolve(block, Handle(r.r0));
     if a.found != 0 {
         return outcome::refused(a.found);
     }
@@ -89,7 +90,7 @@ fn put_cleared(block: &mut [u8], o: ObjectId)
     requires { ⌜ sound? (now block) ≡ true ⌝ }
     ensures { λ _. ⌜ Holds (now (block .exit)) (withObjects (decBlock (now (block .entry))) (sig.clearEvent (decBlock (now (block .entry)) .objects) (o .0))) ⌝ }
 {
-    let old = read::slot_at(block, o.0);
+    let old = read::slot_at(block, o);
     let x = old.object;
     change::content(block, o, old, signal::event::cleared_event(x));
 }
@@ -101,7 +102,7 @@ pub fn clear_event(block: &mut [u8], r: Registers) -> Outcome
     ensures { λ o. ⌜ o ≡ outcome (def.clearEvent (decBlock (now (block .entry))) r) ⌝ }
     ensures { λ _. ⌜ now (block .exit) ≡ left (def.clearEvent (decBlock (now (block .entry))) r) (now (block .entry)) ⌝ }
 {
-    let a = open::open(block, r.r0);
+    let a = open::resolve(block, Handle(r.r0));
     if a.found != 0 {
         return outcome::refused(a.found);
     }

@@ -9,6 +9,7 @@ use types::object::KObject;
 use types::object::Slot;
 use types::sync::Mutex;
 use types::thread::ThreadOption;
+use units::Handle;
 use units::ObjectId;
 ghost use mathlib.Core.Bool.{not};
 ghost use lib.Dec.{eqb};
@@ -97,12 +98,12 @@ pub fn release_mutex(block: &mut [u8], r: Registers) -> Outcome
     ensures { λ o. ⌜ o ≡ outcome (def.releaseMutex (decBlock (now (block .entry))) r) ⌝ }
     ensures { λ _. ⌜ now (block .exit) ≡ left (def.releaseMutex (decBlock (now (block .entry))) r) (now (block .entry)) ⌝ }
 {
-    let a = open::open(block, r.r0);
+    let a = open::resolve(block, Handle(r.r0));
     if a.found != 0 {
         return outcome::refused(a.found);
     }
     let o = a.object;
-    let x = read::slot_at(block, o.0);
+    let x = read::slot_at(block, o);
     let y = x.object;
     release_as(block, o, x, y)
 }

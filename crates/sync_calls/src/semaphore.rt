@@ -8,6 +8,7 @@ use svc::Registers;
 use types::object::KObject;
 use types::object::Slot;
 use types::sync::Semaphore;
+use units::Handle;
 use units::ObjectId;
 ghost use Prim.Native.Nat.{_<_};
 ghost use mathlib.Core.Path.{_≡_};
@@ -120,12 +121,12 @@ pub fn release_semaphore(block: &mut [u8], r: Registers) -> Outcome
     ensures { λ o. ⌜ o ≡ outcome (def.releaseSemaphore (decBlock (now (block .entry))) r) ⌝ }
     ensures { λ _. ⌜ now (block .exit) ≡ left (def.releaseSemaphore (decBlock (now (block .entry))) r) (now (block .entry)) ⌝ }
 {
-    let a = open::open(block, r.r1);
+    let a = open::resolve(block, Handle(r.r1));
     if a.found != 0 {
         return outcome::refused(a.found);
     }
     let o = a.object;
-    let x = read::slot_at(block, o.0);
+    let x = read::slot_at(block, o);
     let y = x.object;
     release_as(block, o, x, y, r.r2)
 }

@@ -23,11 +23,11 @@ pub fn take(block: &mut [u8], o: ObjectId, w: u32) -> bool
     ensures { λ r. ⌜ ((r ≡ false) → decBlock (now (block .exit)) ≡ withThreads (decBlock (now (block .entry))) (decBlock (now (block .entry)) .threads) (def.acquire (decBlock (now (block .entry)) .objects) (o .0) w)) ⌝ }
     ensures { λ _. ⌜ sound? (now (block .exit)) ≡ true ⌝ }
 {
-    let x = read::slot_at(block, o.0);
+    let x = read::slot_at(block, o);
     if acquire::over_after(false, x) {
         return true;
     }
-    write::put_slot(block, o.0, acquire::acquired_slot(x, w));
+    write::put_slot(block, o, acquire::acquired_slot(x, w));
     false
 }
 

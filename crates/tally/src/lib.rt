@@ -11,14 +11,14 @@ ghost use Rattle.laws.specs.Tally.{bump, tally};
 ghost use Rattle.sound.specs.View.{ids};
 ghost use Rattle.tally.specs.Lists.{slotOf, nameOf, names};
 
-// One more for o.
-pub fn bump_at(c: &mut [u32; 129], o: u32)
-    ensures { λ _. ⌜ now (c .exit) ≡ bump 129 (now (c .entry)) o ⌝ }
+// One more for x: the number of an object, of a record or of a TLS slot.
+pub fn bump_at(c: &mut [u32; 129], x: u32)
+    ensures { λ _. ⌜ now (c .exit) ≡ bump 129 (now (c .entry)) x ⌝ }
 {
-    if 128 < o {
+    if 128 < x {
         return;
     }
-    let i = o as usize;
+    let i = x as usize;
     let v = c[i];
     if 100000 <= v {
         return;

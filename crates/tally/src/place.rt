@@ -1,28 +1,31 @@
 // Which slot of a store a number names.
+use units::ObjectId;
 ghost use mathlib.Core.Path.{_≡_};
 ghost use Prim.Native.Nat.{_-_, _<_};
 ghost use Rattle.tally.specs.Place.{isSlot, slotIndex};
 
 // A number that some slot has.
-pub fn is_slot(k: u32) -> bool
-    ensures { λ r. ⌜ r ≡ isSlot k ⌝ }
+pub fn is_slot(o: ObjectId) -> bool
+    ensures { λ r. ⌜ r ≡ isSlot (o .0) ⌝ }
 {
-    if k == 0 {
+    let n = o.0;
+    if n == 0 {
         return false;
     }
-    k < 129
+    n < 129
 }
 
-// An index to look at for the object x: its slot, or the first one if it has none.
-pub fn slot_index(x: u32) -> usize
-    ensures { λ r. ⌜ r ≡ slotIndex x ⌝ }
+// An index to look at for the object o: its slot, or the first one if it has none.
+pub fn slot_index(o: ObjectId) -> usize
+    ensures { λ r. ⌜ r ≡ slotIndex (o .0) ⌝ }
     ensures { λ r. ⌜ r < 128 ⌝ }
 {
-    if x == 0 {
+    let n = o.0;
+    if n == 0 {
         return 0;
     }
-    if 128 < x {
+    if 128 < n {
         return 0;
     }
-    (x - 1) as usize
+    (n - 1) as usize
 }

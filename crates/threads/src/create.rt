@@ -70,13 +70,13 @@ fn put_handle(block: &mut [u8], id: u32)
     let q = head.b;
     let c = head.c;
     let d = head.d;
-    let old = read::slot_at(block, c.0);
+    let old = read::slot_at(block, ObjectId(c.0));
     let x = old.object;
     let mark = old.pulsed;
     let next = types::object::next_of(x);
     write::put_slot(
         block,
-        c.0,
+        ObjectId(c.0),
         Slot {
             object: KObject::Thread(id),
             refcount: 2,

@@ -7,6 +7,7 @@ use thread::places;
 use thread::priority;
 use types::object::KObject;
 use types::thread::ThreadOption;
+use units::Handle;
 ghost use mathlib.Core.Path.{_≡_};
 ghost use mathlib.Core.Bool.{true};
 ghost use lib.ListN.{length};
@@ -36,15 +37,16 @@ fn thread_named(x: KObject) -> ThreadOption
 }
 
 // The pseudo-handle of the process names no thread, and no object is made.
-fn resolve_thread(block: &[u8], h: u32) -> ThreadOption
+fn resolve_thread(block: &[u8], h: Handle) -> ThreadOption
     requires { ⌜ length (now block) ≡ 16384 ⌝ }
-    ensures { λ t. ⌜ t ≡ def.resolveThread (decBlock (now (block .entry))) h ⌝ }
+    ensures { λ t. ⌜ t ≡ def.resolveThread (decBlock (now (block .entry))) (h .0) ⌝ }
 {
-    if h == 0xFFFF8000 {
+    let n = h.0;
+    if n == 0xFFFF8000 {
         return read::current(block);
     }
-    let o = read::object_of(block, h);
-    let x = read::slot_at(block, o.0);
+    let o = read::resolve(block, h);
+    let x = read::slot_at(block, o);
     let y = x.object;
     thread_named(y)
 }
@@ -90,6 +92,6 @@ pub fn set_thread_priority(block: &mut [u8], r: Registers) -> Outcome
     ensures { λ o. ⌜ o ≡ outcome (def.setThreadPriority (decBlock (now (block .entry))) r) ⌝ }
     ensures { λ _. ⌜ now (block .exit) ≡ left (def.setThreadPriority (decBlock (now (block .entry))) r) (now (block .entry)) ⌝ }
 {
-    let named = resolve_thread(block, r.r0);
+    let named = resolve_thread(block, Handle(r.r0));
     set_priority_as(block, named, r.r1)
 }

@@ -21,12 +21,12 @@ ghost use Rattle.rows.specs.Holds.{Holds};
 ghost use Rattle.outcome.specs.Outcome.{outcome, left};
 
 // How long the thread sleeps; a yield of 0 nanoseconds that nobody could use, and at which nothing is due, keeps the core.
-fn sleep_ticks(block: &[u8], nanos: u64, tick: u64) -> TickOption
+fn sleep_ticks(block: &[u8], nanos: Nanos, tick: Ticks) -> TickOption
     requires { ⌜ length (now block) ≡ 16384 ⌝ }
-    ensures { λ d. ⌜ d ≡ def.sleepTicks (decBlock (now (block .entry))) nanos tick ⌝ }
+    ensures { λ d. ⌜ d ≡ def.sleepTicks (decBlock (now (block .entry))) (nanos .0) (tick .0) ⌝ }
 {
-    if nanos != 0 {
-        return TickOption::SomeTick(units::nanos_to_ticks(Nanos(nanos)));
+    if !units::is_zero(nanos) {
+        return TickOption::SomeTick(units::nanos_to_ticks(nanos));
     }
     let current = read::current(block);
     let ts = block::thread::get_threads(block, 128);
@@ -40,9 +40,9 @@ fn sleep_ticks(block: &[u8], nanos: u64, tick: u64) -> TickOption
     TickOption::NoTick
 }
 
-fn put_sleeping(block: &mut [u8], c: u32, wake: u64)
+fn put_sleeping(block: &mut [u8], c: u32, wake: Ticks)
     requires { ⌜ length (now block) ≡ 16384 ⌝ }
-    ensures { λ _. ⌜ now (block .exit) ≡ threadPut (now (block .entry)) c (sleeping (threadAt (decBlock (now (block .entry)) .threads) c) wake) ⌝ }
+    ensures { λ _. ⌜ now (block .exit) ≡ threadPut (now (block .entry)) c (sleeping (threadAt (decBlock (now (block .entry)) .threads) c) (wake .0)) ⌝ }
 {
     if 32 <= c {
         return;
@@ -52,36 +52,35 @@ fn put_sleeping(block: &mut [u8], c: u32, wake: u64)
 }
 
 // It counts as running since the tick.
-fn put_running(block: &mut [u8], c: u32, tick: u64)
+fn put_running(block: &mut [u8], c: u32, tick: Ticks)
     requires { ⌜ length (now block) ≡ 16384 ⌝ }
-    ensures { λ _. ⌜ now (block .exit) ≡ threadPut (now (block .entry)) c (withRun (threadAt (decBlock (now (block .entry)) .threads) c) (threadAt (decBlock (now (block .entry)) .threads) c .waited) tick) ⌝ }
+    ensures { λ _. ⌜ now (block .exit) ≡ threadPut (now (block .entry)) c (withRun (threadAt (decBlock (now (block .entry)) .threads) c) (threadAt (decBlock (now (block .entry)) .threads) c .waited) (tick .0)) ⌝ }
 {
     if 32 <= c {
         return;
     }
     let mut t = read::thread_at(block, c);
-    let since = Ticks(tick);
-    t.running_since = since;
+    t.running_since = tick;
     write::put_thread(block, c, t);
 }
 
-fn sleep_at(block: &mut [u8], c: u32, time: TickOption, tick: u64)
+fn sleep_at(block: &mut [u8], c: u32, time: TickOption, tick: Ticks)
     requires { ⌜ length (now block) ≡ 16384 ⌝ }
     requires { ⌜ sound? (now block) ≡ true ⌝ }
     requires { ⌜ decBlock (now block) .«current_thread» ≡ ThreadOption.SomeThread c ⌝ }
-    ensures { λ _. ⌜ Holds (now (block .exit)) (def.sleepFor time (decBlock (now (block .entry))) tick) ⌝ }
+    ensures { λ _. ⌜ Holds (now (block .exit)) (def.sleepFor time (decBlock (now (block .entry))) (tick .0)) ⌝ }
 {
     match time {
         TickOption::NoTick => put_running(block, c, tick),
-        TickOption::SomeTick(d) => put_sleeping(block, c, begin::saturating_add(tick, d.0)),
+        TickOption::SomeTick(d) => put_sleeping(block, c, begin::saturating_add(tick, d)),
     }
 }
 
-fn sleep_as(block: &mut [u8], current: ThreadOption, time: TickOption, tick: u64)
+fn sleep_as(block: &mut [u8], current: ThreadOption, time: TickOption, tick: Ticks)
     requires { ⌜ length (now block) ≡ 16384 ⌝ }
     requires { ⌜ sound? (now block) ≡ true ⌝ }
     requires { ⌜ decBlock (now block) .«current_thread» ≡ current ⌝ }
-    ensures { λ _. ⌜ Holds (now (block .exit)) (def.sleepFor time (decBlock (now (block .entry))) tick) ⌝ }
+    ensures { λ _. ⌜ Holds (now (block .exit)) (def.sleepFor time (decBlock (now (block .entry))) (tick .0)) ⌝ }
 {
     match current {
         ThreadOption::NoThread => {}
@@ -90,11 +89,11 @@ fn sleep_as(block: &mut [u8], current: ThreadOption, time: TickOption, tick: u64
 }
 
 // r0 and r1 nanoseconds, without a sign.
-pub fn sleep_thread(block: &mut [u8], r: Registers, tick: u64) -> Outcome
+pub fn sleep_thread(block: &mut [u8], r: Registers, tick: Ticks) -> Outcome
     requires { ⌜ length (now block) ≡ 16384 ⌝ }
     requires { ⌜ sound? (now block) ≡ true ⌝ }
-    ensures { λ o. ⌜ o ≡ outcome (def.sleepThread (decBlock (now (block .entry))) r tick) ⌝ }
-    ensures { λ _. ⌜ now (block .exit) ≡ left (def.sleepThread (decBlock (now (block .entry))) r tick) (now (block .entry)) ⌝ }
+    ensures { λ o. ⌜ o ≡ outcome (def.sleepThread (decBlock (now (block .entry))) r (tick .0)) ⌝ }
+    ensures { λ _. ⌜ now (block .exit) ≡ left (def.sleepThread (decBlock (now (block .entry))) r (tick .0)) (now (block .entry)) ⌝ }
 {
     if outcome::out_of_handles(block) {
         return outcome::refused(8);

@@ -2,7 +2,9 @@
 use object::handles;
 use objects::open;
 use objects::open::Opened;
+use units::Handle;
 use units::ObjectId;
+use units::Ticks;
 ghost use mathlib.Core.Path.{_≡_};
 ghost use mathlib.Core.Bool.{true, false};
 ghost use lib.ListN.{length};
@@ -16,10 +18,10 @@ ghost use Rattle.lent.specs.Operations.{outOfHandles?};
 ghost use Rattle.outcome.specs.Findings.{foundOf};
 ghost use Rattle.objects.specs.Open.{Opens};
 
-fn over_if(block: &[u8], fires: bool, tick: u64) -> bool
+fn over_if(block: &[u8], fires: bool, tick: Ticks) -> bool
     requires { ⌜ length (now block) ≡ 16384 ⌝ }
-    requires { ⌜ fires ≡ timerDue tick (decBlock (now block) .objects .slots) ⌝ }
-    ensures { λ r. ⌜ r ≡ def.caughtUp (decBlock (now (block .entry))) tick .objects .overflow ⌝ }
+    requires { ⌜ fires ≡ timerDue (tick .0) (decBlock (now block) .objects .slots) ⌝ }
+    ensures { λ r. ⌜ r ≡ def.caughtUp (decBlock (now (block .entry))) (tick .0) .objects .overflow ⌝ }
 {
     if !fires {
         return false;
@@ -29,22 +31,22 @@ fn over_if(block: &[u8], fires: bool, tick: u64) -> bool
 
 // What a call would find already, looked for before the first write: a count of periods may not fit, the handles may be used up.
 // full tells whether there is no slot for an object that the call would make.
-pub fn found_before(block: &[u8], full: bool, fires: bool, tick: u64) -> u32
+pub fn found_before(block: &[u8], full: bool, fires: bool, tick: Ticks) -> u32
     requires { ⌜ length (now block) ≡ 16384 ⌝ }
-    requires { ⌜ fires ≡ timerDue tick (decBlock (now block) .objects .slots) ⌝ }
-    ensures { λ n. ⌜ n ≡ foundOf full (def.caughtUp (decBlock (now (block .entry))) tick .objects .overflow or outOfHandles? (decBlock (now (block .entry)))) ⌝ }
+    requires { ⌜ fires ≡ timerDue (tick .0) (decBlock (now block) .objects .slots) ⌝ }
+    ensures { λ n. ⌜ n ≡ foundOf full (def.caughtUp (decBlock (now (block .entry))) (tick .0) .objects .overflow or outOfHandles? (decBlock (now (block .entry)))) ⌝ }
 {
     let over = over_if(block, fires, tick);
     outcome::found_of(full, handles::either(over, outcome::out_of_handles(block)))
 }
 
 // Timers that came due by the tick fire.
-pub fn catch_up_if(block: &mut [u8], fires: bool, tick: u64)
+pub fn catch_up_if(block: &mut [u8], fires: bool, tick: Ticks)
     requires { ⌜ length (now block) ≡ 16384 ⌝ }
     requires { ⌜ sound? (now block) ≡ true ⌝ }
-    requires { ⌜ fires ≡ timerDue tick (decBlock (now block) .objects .slots) ⌝ }
-    requires { ⌜ def.caughtUp (decBlock (now block)) tick .objects .overflow ≡ false ⌝ }
-    ensures { λ _. ⌜ decBlock (now (block .exit)) ≡ def.caughtUp (decBlock (now (block .entry))) tick ⌝ }
+    requires { ⌜ fires ≡ timerDue (tick .0) (decBlock (now block) .objects .slots) ⌝ }
+    requires { ⌜ def.caughtUp (decBlock (now block)) (tick .0) .objects .overflow ≡ false ⌝ }
+    ensures { λ _. ⌜ decBlock (now (block .exit)) ≡ def.caughtUp (decBlock (now (block .entry))) (tick .0) ⌝ }
     ensures { λ _. ⌜ sound? (now (block .exit)) ≡ true ⌝ }
 {
     if !fires {
@@ -55,12 +57,12 @@ pub fn catch_up_if(block: &mut [u8], fires: bool, tick: u64)
 
 // Timers that came due fire, then the handle is opened. With a finding the block stays as it is, and the object is left
 // open: the callers refuse then.
-pub fn open_caught(block: &mut [u8], h: u32, tick: u64) -> Opened
+pub fn open_caught(block: &mut [u8], h: Handle, tick: Ticks) -> Opened
     requires { ⌜ length (now block) ≡ 16384 ⌝ }
     requires { ⌜ sound? (now block) ≡ true ⌝ }
-    ensures { λ r. ⌜ Opens (def.caughtUp (decBlock (now (block .entry))) tick) (resolved (def.caughtUp (decBlock (now (block .entry))) tick) h) (now (block .entry)) (now (block .exit)) r ⌝ }
+    ensures { λ r. ⌜ Opens (def.caughtUp (decBlock (now (block .entry))) (tick .0)) (resolved (def.caughtUp (decBlock (now (block .entry))) (tick .0)) (h .0)) (now (block .entry)) (now (block .exit)) r ⌝ }
     ensures { λ _. ⌜ sound? (now (block .exit)) ≡ true ⌝ }
-    ensures { λ r. ⌜ ((r .found ≡ 0) → decBlock (now (block .exit)) ≡ withObjects (def.caughtUp (decBlock (now (block .entry))) tick) (resolved (def.caughtUp (decBlock (now (block .entry))) tick) h .store)) ⌝ }
+    ensures { λ r. ⌜ ((r .found ≡ 0) → decBlock (now (block .exit)) ≡ withObjects (def.caughtUp (decBlock (now (block .entry))) (tick .0)) (resolved (def.caughtUp (decBlock (now (block .entry))) (tick .0)) (h .0) .store)) ⌝ }
 {
     let fires = due::timer_due(block, tick);
     let full = open::no_room(block, h);
@@ -72,5 +74,5 @@ pub fn open_caught(block: &mut [u8], h: u32, tick: u64) -> Opened
         };
     }
     catch_up_if(block, fires, tick);
-    open::open(block, h)
+    open::resolve(block, h)
 }

@@ -40,34 +40,34 @@ fn timer_of(x: KObject) -> Timer
 }
 
 // Two registers as nanoseconds; below 0 counts as 0.
-fn delay(low: u32, high: u32) -> u64
-    ensures { λ n. ⌜ n ≡ def.notBelow (pair low high) ⌝ }
+fn delay(low: u32, high: u32) -> Nanos
+    ensures { λ n. ⌜ n .0 ≡ def.notBelow (pair low high) ⌝ }
 {
     let n = svc::read::pair(low, high);
     if svc::read::negative(n) {
-        return 0;
+        return units::zero_nanos();
     }
     n
 }
 
-fn set_to(t: Timer, initial: u64, interval: u64, tick: u64) -> Timer
-    ensures { λ r. ⌜ r ≡ def.setTo t initial interval tick ⌝ }
+fn set_to(t: Timer, initial: Nanos, interval: Nanos, tick: Ticks) -> Timer
+    ensures { λ r. ⌜ r ≡ def.setTo t (initial .0) (interval .0) (tick .0) ⌝ }
 {
     let kind = t.reset_type;
-    let first = units::nanos_to_ticks(Nanos(initial));
-    let at = begin::saturating_add(tick, first.0);
-    let period = units::nanos_to_ticks(Nanos(interval));
+    let first = units::nanos_to_ticks(initial);
+    let at = begin::saturating_add(tick, first);
+    let period = units::nanos_to_ticks(interval);
     Timer {
         reset_type: kind,
         signaled: false,
-        fire_at: TickOption::SomeTick(Ticks(at)),
+        fire_at: TickOption::SomeTick(at),
         interval: period,
     }
 }
 
 // The timer x, set by the registers.
-pub fn set_by(x: KObject, r: Registers, tick: u64) -> Timer
-    ensures { λ t. ⌜ t ≡ def.setTo (timerOf x) (def.notBelow (pair (r .r2) (r .r3))) (def.notBelow (pair (r .r1) (r .r4))) tick ⌝ }
+pub fn set_by(x: KObject, r: Registers, tick: Ticks) -> Timer
+    ensures { λ t. ⌜ t ≡ def.setTo (timerOf x) (def.notBelow (pair (r .r2) (r .r3))) (def.notBelow (pair (r .r1) (r .r4))) (tick .0) ⌝ }
 {
     let t = timer_of(x);
     let initial = delay(r.r2, r.r3);

@@ -10,6 +10,7 @@ use svc::Registers;
 use types::object::KObject;
 use types::sync::Timer;
 use types::thread::TickOption;
+use units::Handle;
 use units::ObjectId;
 use units::Ticks;
 ghost use mathlib.Core.Path.{_≡_};
@@ -42,13 +43,13 @@ pub fn create_timer(block: &mut [u8], r: Registers) -> Outcome
     )
 }
 
-fn set_opened(block: &mut [u8], o: ObjectId, r: Registers, tick: u64) -> Outcome
+fn set_opened(block: &mut [u8], o: ObjectId, r: Registers, tick: Ticks) -> Outcome
     requires { ⌜ length (now block) ≡ 16384 ⌝ }
     requires { ⌜ sound? (now block) ≡ true ⌝ }
-    ensures { λ v. ⌜ v ≡ accepted (setOpened (decBlock (now (block .entry))) (o .0) r tick) ⌝ }
-    ensures { λ _. ⌜ Holds (now (block .exit)) (setOpened (decBlock (now (block .entry))) (o .0) r tick .kernel) ⌝ }
+    ensures { λ v. ⌜ v ≡ accepted (setOpened (decBlock (now (block .entry))) (o .0) r (tick .0)) ⌝ }
+    ensures { λ _. ⌜ Holds (now (block .exit)) (setOpened (decBlock (now (block .entry))) (o .0) r (tick .0) .kernel) ⌝ }
 {
-    let x = read::slot_at(block, o.0);
+    let x = read::slot_at(block, o);
     let old = x.object;
     if types::object::kind_number(old) != 5 {
         return outcome::answers(16);
@@ -59,13 +60,13 @@ fn set_opened(block: &mut [u8], o: ObjectId, r: Registers, tick: u64) -> Outcome
 }
 
 // r0 handle, r2 and r3 nanoseconds until it fires, r1 and r4 its period.
-pub fn set_timer(block: &mut [u8], r: Registers, tick: u64) -> Outcome
+pub fn set_timer(block: &mut [u8], r: Registers, tick: Ticks) -> Outcome
     requires { ⌜ length (now block) ≡ 16384 ⌝ }
     requires { ⌜ sound? (now block) ≡ true ⌝ }
-    ensures { λ o. ⌜ o ≡ outcome (def.setTimer (decBlock (now (block .entry))) r tick) ⌝ }
-    ensures { λ _. ⌜ now (block .exit) ≡ left (def.setTimer (decBlock (now (block .entry))) r tick) (now (block .entry)) ⌝ }
+    ensures { λ o. ⌜ o ≡ outcome (def.setTimer (decBlock (now (block .entry))) r (tick .0)) ⌝ }
+    ensures { λ _. ⌜ now (block .exit) ≡ left (def.setTimer (decBlock (now (block .entry))) r (tick .0)) (now (block .entry)) ⌝ }
 {
-    let a = caught::open_caught(block, r.r0, tick);
+    let a = caught::open_caught(block, Handle(r.r0), tick);
     if a.found != 0 {
         return outcome::refused(a.found);
     }
@@ -78,20 +79,20 @@ fn put_cancelled(block: &mut [u8], o: ObjectId)
     requires { ⌜ sound? (now block) ≡ true ⌝ }
     ensures { λ _. ⌜ Holds (now (block .exit)) (changed def.cancelled (decBlock (now (block .entry))) (o .0)) ⌝ }
 {
-    let x = read::slot_at(block, o.0);
+    let x = read::slot_at(block, o);
     let old = x.object;
     let after = set::cancelled(old);
     change::content(block, o, x, after);
 }
 
 // r0 handle. Always done, whatever the handle names.
-pub fn cancel_timer(block: &mut [u8], r: Registers, tick: u64) -> Outcome
+pub fn cancel_timer(block: &mut [u8], r: Registers, tick: Ticks) -> Outcome
     requires { ⌜ length (now block) ≡ 16384 ⌝ }
     requires { ⌜ sound? (now block) ≡ true ⌝ }
-    ensures { λ o. ⌜ o ≡ outcome (def.cancelTimer (decBlock (now (block .entry))) r tick) ⌝ }
-    ensures { λ _. ⌜ now (block .exit) ≡ left (def.cancelTimer (decBlock (now (block .entry))) r tick) (now (block .entry)) ⌝ }
+    ensures { λ o. ⌜ o ≡ outcome (def.cancelTimer (decBlock (now (block .entry))) r (tick .0)) ⌝ }
+    ensures { λ _. ⌜ now (block .exit) ≡ left (def.cancelTimer (decBlock (now (block .entry))) r (tick .0)) (now (block .entry)) ⌝ }
 {
-    let a = caught::open_caught(block, r.r0, tick);
+    let a = caught::open_caught(block, Handle(r.r0), tick);
     if a.found != 0 {
         return outcome::refused(a.found);
     }
@@ -105,20 +106,20 @@ fn put_cleared(block: &mut [u8], o: ObjectId)
     requires { ⌜ sound? (now block) ≡ true ⌝ }
     ensures { λ _. ⌜ Holds (now (block .exit)) (changed lostObject (decBlock (now (block .entry))) (o .0)) ⌝ }
 {
-    let x = read::slot_at(block, o.0);
+    let x = read::slot_at(block, o);
     let old = x.object;
     let after = catch_up::lost_object(old);
     change::content(block, o, x, after);
 }
 
 // r0 handle. The signal goes, as that of a lost pulse does.
-pub fn clear_timer(block: &mut [u8], r: Registers, tick: u64) -> Outcome
+pub fn clear_timer(block: &mut [u8], r: Registers, tick: Ticks) -> Outcome
     requires { ⌜ length (now block) ≡ 16384 ⌝ }
     requires { ⌜ sound? (now block) ≡ true ⌝ }
-    ensures { λ o. ⌜ o ≡ outcome (def.clearTimer (decBlock (now (block .entry))) r tick) ⌝ }
-    ensures { λ _. ⌜ now (block .exit) ≡ left (def.clearTimer (decBlock (now (block .entry))) r tick) (now (block .entry)) ⌝ }
+    ensures { λ o. ⌜ o ≡ outcome (def.clearTimer (decBlock (now (block .entry))) r (tick .0)) ⌝ }
+    ensures { λ _. ⌜ now (block .exit) ≡ left (def.clearTimer (decBlock (now (block .entry))) r (tick .0)) (now (block .entry)) ⌝ }
 {
-    let a = caught::open_caught(block, r.r0, tick);
+    let a = caught::open_caught(block, Handle(r.r0), tick);
     if a.found != 0 {
         return outcome::refused(a.found);
     }

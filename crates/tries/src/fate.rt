@@ -3,6 +3,7 @@ use pass::Fate;
 use pass::IndexOption;
 use types::thread::Thread;
 use types::thread::ThreadStatus;
+use units::Ticks;
 ghost use mathlib.Core.Path.{_≡_};
 ghost use Rattle.laws.specs.Logic.{pick};
 ghost use Rattle.pass.specs.Timers.{dueBy};
@@ -72,8 +73,8 @@ fn fate_as(status: ThreadStatus, found: IndexOption, late: bool) -> Fate
 }
 
 // Of the thread t, for which found is the index that its wait gives now.
-pub fn fate_of(t: Thread, found: IndexOption, tick: u64) -> Fate
-    ensures { λ r. ⌜ r ≡ def.fateAs (t .status) found (dueBy (t .«wakeup_at») tick) ⌝ }
+pub fn fate_of(t: Thread, found: IndexOption, tick: Ticks) -> Fate
+    ensures { λ r. ⌜ r ≡ def.fateAs (t .status) found (dueBy (t .«wakeup_at») (tick .0)) ⌝ }
 {
     let status = t.status;
     let at = t.wakeup_at;

@@ -11,6 +11,7 @@ use types::thread::Thread;
 use types::thread::ThreadStatus;
 use types::thread::WaitResult;
 use units::ObjectId;
+use units::Ticks;
 ghost use mathlib.Core.Path.{_≡_};
 ghost use mathlib.Core.Bool.{true, false};
 ghost use Prim.Native.Nat.{_+_, _<_};
@@ -113,12 +114,12 @@ fn take_for(block: &mut [u8], f: Fate, t: Thread, w: u32) -> bool
 
 // The turn of thread i. True if a count does not fit any more; part of the turn is done then. The block is left
 // open, since the pass refuses and puts back a copy.
-fn try_wait(block: &mut [u8], i: u32, tick: u64) -> bool
+fn try_wait(block: &mut [u8], i: u32, tick: Ticks) -> bool
     requires { ⌜ length (now block) ≡ 16384 ⌝ }
     requires { ⌜ sound? (now block) ≡ true ⌝ }
     requires { ⌜ i < 32 ⌝ }
-    ensures { λ r. ⌜ r ≡ def.tryWait tick (waitsOf (decBlock (now (block .entry)))) i .objects .overflow ⌝ }
-    ensures { λ r. ⌜ ((r ≡ false) → decBlock (now (block .exit)) ≡ during (decBlock (now (block .entry))) (def.tryWait tick (waitsOf (decBlock (now (block .entry)))) i)) ⌝ }
+    ensures { λ r. ⌜ r ≡ def.tryWait (tick .0) (waitsOf (decBlock (now (block .entry)))) i .objects .overflow ⌝ }
+    ensures { λ r. ⌜ ((r ≡ false) → decBlock (now (block .exit)) ≡ during (decBlock (now (block .entry))) (def.tryWait (tick .0) (waitsOf (decBlock (now (block .entry)))) i)) ⌝ }
     ensures { λ r. ⌜ ((r ≡ false) → sound? (now (block .exit)) ≡ true) ⌝ }
 {
     let t = read::thread_at(block, i);
@@ -138,11 +139,11 @@ fn try_wait(block: &mut [u8], i: u32, tick: u64) -> bool
 
 // True if a count does not fit any more, with part of it done. The block is left open then: the pass refuses and puts back
 // its copy.
-pub fn try_waits(block: &mut [u8], tick: u64) -> bool
+pub fn try_waits(block: &mut [u8], tick: Ticks) -> bool
     requires { ⌜ length (now block) ≡ 16384 ⌝ }
     requires { ⌜ sound? (now block) ≡ true ⌝ }
-    ensures { λ r. ⌜ r ≡ pass.tried (decBlock (now (block .entry))) tick .objects .overflow ⌝ }
-    ensures { λ r. ⌜ ((r ≡ false) → decBlock (now (block .exit)) ≡ during (decBlock (now (block .entry))) (pass.tried (decBlock (now (block .entry))) tick)) ⌝ }
+    ensures { λ r. ⌜ r ≡ pass.tried (decBlock (now (block .entry))) (tick .0) .objects .overflow ⌝ }
+    ensures { λ r. ⌜ ((r ≡ false) → decBlock (now (block .exit)) ≡ during (decBlock (now (block .entry))) (pass.tried (decBlock (now (block .entry))) (tick .0))) ⌝ }
     ensures { λ r. ⌜ ((r ≡ false) → sound? (now (block .exit)) ≡ true) ⌝ }
 {
     if slots::fire(block, tick) {

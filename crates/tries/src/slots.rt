@@ -3,6 +3,8 @@ use block::record;
 use rows::write;
 use signal::pulse;
 use signal::timer;
+use units::ObjectId;
+use units::Ticks;
 ghost use mathlib.Core.Path.{_≡_};
 ghost use mathlib.Core.Bool.{true, false};
 ghost use Prim.Native.Nat.{_+_, _<_};
@@ -15,11 +17,11 @@ ghost use Rattle.pass.specs.Timers.{anyOver, fireTimers};
 
 // Timers that are due fire. True if a count of periods does not fit; some have fired then. The block is left open,
 // since the pass refuses and puts back a copy.
-pub fn fire(block: &mut [u8], tick: u64) -> bool
+pub fn fire(block: &mut [u8], tick: Ticks) -> bool
     requires { ⌜ length (now block) ≡ 16384 ⌝ }
     requires { ⌜ sound? (now block) ≡ true ⌝ }
-    ensures { λ r. ⌜ r ≡ anyOver tick (decBlock (now (block .entry)) .objects .slots) ⌝ }
-    ensures { λ r. ⌜ ((r ≡ false) → decBlock (now (block .exit)) ≡ withThreads (decBlock (now (block .entry))) (decBlock (now (block .entry)) .threads) (fireTimers (decBlock (now (block .entry)) .objects) tick)) ⌝ }
+    ensures { λ r. ⌜ r ≡ anyOver (tick .0) (decBlock (now (block .entry)) .objects .slots) ⌝ }
+    ensures { λ r. ⌜ ((r ≡ false) → decBlock (now (block .exit)) ≡ withThreads (decBlock (now (block .entry))) (decBlock (now (block .entry)) .threads) (fireTimers (decBlock (now (block .entry)) .objects) (tick .0))) ⌝ }
     ensures { λ r. ⌜ ((r ≡ false) → sound? (now (block .exit)) ≡ true) ⌝ }
 {
     let mut i: usize = 0;
@@ -29,7 +31,11 @@ pub fn fire(block: &mut [u8], tick: u64) -> bool
             if timer::slot_over(old, tick) {
                 return true;
             }
-            write::put_slot(block, (i + 1) as u32, timer::fired_slot(tick, old));
+            write::put_slot(
+                block,
+                ObjectId((i + 1) as u32),
+                timer::fired_slot(tick, old),
+            );
         }
         i += 1;
     }
@@ -47,7 +53,7 @@ pub fn clear_pulses(block: &mut [u8])
     while i < 128 {
         let old = record::slot_at(block, i);
         if old.pulsed {
-            write::put_slot(block, (i + 1) as u32, pulse::unpulsed_slot(old));
+            write::put_slot(block, ObjectId((i + 1) as u32), pulse::unpulsed_slot(old));
         }
         i += 1;
     }

@@ -27,7 +27,7 @@ fn is_ended(b: &[u8], t: u32) -> bool
     if o.0 == 0 {
         return true;
     }
-    let s = read::slot_at(b, o.0);
+    let s = read::slot_at(b, o);
     s.refcount <= 1
 }
 

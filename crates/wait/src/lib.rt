@@ -40,7 +40,7 @@ fn as_wanted(block: &[u8], o: ObjectId, w: u32, want: bool) -> bool
     requires { ⌜ length (now block) ≡ 16384 ⌝ }
     ensures { λ r. ⌜ r ≡ asWanted want (isSignaled (decBlock (now (block .entry)) .threads) (slotAt (decBlock (now (block .entry)) .objects .slots) (o .0) .object) w) ⌝ }
 {
-    let x = read::slot_at(block, o.0);
+    let x = read::slot_at(block, o);
     let v = x.object;
     let b = signaled(block, v, w);
     if want {

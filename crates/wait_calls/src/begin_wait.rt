@@ -8,6 +8,7 @@ use types::thread::TickOption;
 use types::thread::WaitSyscall;
 use units::Nanos;
 use units::ObjectId;
+use units::Ticks;
 ghost use mathlib.Core.Path.{_≡_};
 ghost use mathlib.Core.Bool.{true};
 ghost use lib.ListN.{length, take};
@@ -22,13 +23,13 @@ ghost use Rattle.svc.specs.Waits as def;
 ghost use Rattle.wait_calls.specs.Waits.{waitOnIn};
 
 // A negative time waits for good.
-fn wait_time(nanos: u64) -> TickOption
-    ensures { λ r. ⌜ r ≡ def.waitTime nanos ⌝ }
+fn wait_time(nanos: Nanos) -> TickOption
+    ensures { λ r. ⌜ r ≡ def.waitTime (nanos .0) ⌝ }
 {
     if svc::read::negative(nanos) {
         return TickOption::NoTick;
     }
-    TickOption::SomeTick(units::nanos_to_ticks(Nanos(nanos)))
+    TickOption::SomeTick(units::nanos_to_ticks(nanos))
 }
 
 fn with_call(t: Thread, call: WaitSyscall) -> Thread
@@ -50,9 +51,9 @@ fn hold_list(block: &mut [u8], l: [ObjectId; 8], n: u32)
             return;
         }
         let o = l[i];
-        let x = read::slot_at(block, o.0);
+        let x = read::slot_at(block, o);
         let y = store::held(x);
-        write::put_slot(block, o.0, y);
+        write::put_slot(block, o, y);
         i += 1;
     }
 }
@@ -64,14 +65,14 @@ pub fn begin_wait(
     l: [ObjectId; 8],
     n: u32,
     all: bool,
-    nanos: u64,
-    tick: u64,
+    nanos: Nanos,
+    tick: Ticks,
     call: WaitSyscall,
 )
     requires { ⌜ length (now block) ≡ 16384 ⌝ }
     requires { ⌜ sound? (now block) ≡ true ⌝ }
     requires { ⌜ decBlock (now block) .«current_thread» ≡ ThreadOption.SomeThread c ⌝ }
-    ensures { λ _. ⌜ now (block .exit) ≡ encBlock (waitOnIn (decBlock (now (block .entry))) c l n all nanos tick call .kernel) ⌝ }
+    ensures { λ _. ⌜ now (block .exit) ≡ encBlock (waitOnIn (decBlock (now (block .entry))) c l n all (nanos .0) (tick .0) call .kernel) ⌝ }
 {
     let t = read::thread_at(block, c);
     let time = wait_time(nanos);

@@ -1,6 +1,7 @@
 // The objects that a list of handles names.
 use asked::open;
 use object::handles;
+use units::Handle;
 use units::ObjectId;
 ghost use mathlib.Core.Path.{_≡_};
 ghost use mathlib.Core.Bool.{true, false, not};
@@ -38,7 +39,7 @@ pub fn look_up(block: &[u8], words: [u32; 8], n: u32) -> Opened
                 known: !unknown,
             };
         }
-        let o = open::open_object(block, words[i]);
+        let o = open::open_object(block, Handle(words[i]));
         unknown = handles::either(unknown, o.0 == 0);
         l[i] = o;
         i += 1;
@@ -69,7 +70,7 @@ pub fn open_list(block: &mut [u8], words: [u32; 8], n: u32) -> Opened
                 known: true,
             };
         }
-        let a = objects::open::open(block, words[i]);
+        let a = objects::open::resolve(block, Handle(words[i]));
         let o = a.object;
         if o.0 == 0 {
             return Opened {

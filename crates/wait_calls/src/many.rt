@@ -12,7 +12,9 @@ use thread::places;
 use timer_calls::caught;
 use types::thread::ThreadOption;
 use types::thread::WaitSyscall;
+use units::Nanos;
 use units::ObjectId;
+use units::Ticks;
 ghost use mathlib.Core.Path.{_≡_};
 ghost use mathlib.Core.Bool.{true, false, not};
 ghost use mathlib.Core.Logic.{_⊎_};
@@ -90,19 +92,19 @@ fn wait_at(
     l: [ObjectId; 8],
     n: u32,
     all: bool,
-    nanos: u64,
-    tick: u64,
+    nanos: Nanos,
+    tick: Ticks,
 ) -> Outcome
     requires { ⌜ length (now block) ≡ 16384 ⌝ }
     requires { ⌜ sound? (now block) ≡ true ⌝ }
     requires { ⌜ outOfHandles? (decBlock (now block)) ≡ false ⌝ }
     requires { ⌜ decBlock (now block) .«current_thread» ≡ ThreadOption.SomeThread c ⌝ }
-    ensures { λ r. ⌜ r ≡ outcome (takeIn found (decBlock (now (block .entry))) c l n all nanos tick) ⌝ }
-    ensures { λ _. ⌜ (((all ≡ false) ⊎ (finding (takeIn found (decBlock (now (block .entry))) c l n all nanos tick .kernel) ≡ 0)) → now (block .exit) ≡ left (takeIn found (decBlock (now (block .entry))) c l n all nanos tick) (now (block .entry))) ⌝ }
+    ensures { λ r. ⌜ r ≡ outcome (takeIn found (decBlock (now (block .entry))) c l n all (nanos .0) (tick .0)) ⌝ }
+    ensures { λ _. ⌜ (((all ≡ false) ⊎ (finding (takeIn found (decBlock (now (block .entry))) c l n all (nanos .0) (tick .0) .kernel) ≡ 0)) → now (block .exit) ≡ left (takeIn found (decBlock (now (block .entry))) c l n all (nanos .0) (tick .0)) (now (block .entry))) ⌝ }
 {
     match found {
         IndexOption::NoIndex => {
-            if nanos == 0 {
+            if units::is_zero(nanos) {
                 return outcome::answers(17);
             }
             begin_wait::begin_wait(
@@ -129,13 +131,13 @@ fn wait_list(
     l: [ObjectId; 8],
     known: bool,
     n: u32,
-    tick: u64,
+    tick: Ticks,
 ) -> Outcome
     requires { ⌜ length (now block) ≡ 16384 ⌝ }
     requires { ⌜ sound? (now block) ≡ true ⌝ }
     requires { ⌜ outOfHandles? (decBlock (now block)) ≡ false ⌝ }
-    ensures { λ o. ⌜ o ≡ outcome (waitIn (decBlock (now (block .entry))) l known n r tick) ⌝ }
-    ensures { λ _. ⌜ (((not (eqb (r .r3) 0) ≡ false) ⊎ (finding (waitIn (decBlock (now (block .entry))) l known n r tick .kernel) ≡ 0)) → now (block .exit) ≡ left (waitIn (decBlock (now (block .entry))) l known n r tick) (now (block .entry))) ⌝ }
+    ensures { λ o. ⌜ o ≡ outcome (waitIn (decBlock (now (block .entry))) l known n r (tick .0)) ⌝ }
+    ensures { λ _. ⌜ (((not (eqb (r .r3) 0) ≡ false) ⊎ (finding (waitIn (decBlock (now (block .entry))) l known n r (tick .0) .kernel) ≡ 0)) → now (block .exit) ≡ left (waitIn (decBlock (now (block .entry))) l known n r (tick .0)) (now (block .entry))) ⌝ }
 {
     if !known {
         return outcome::answers(16);
@@ -162,13 +164,13 @@ fn wait_caught(
     l: [ObjectId; 8],
     known: bool,
     fires: bool,
-    tick: u64,
+    tick: Ticks,
 ) -> Outcome
     requires { ⌜ length (now block) ≡ 16384 ⌝ }
     requires { ⌜ sound? (now block) ≡ true ⌝ }
-    requires { ⌜ Ready (decBlock (now block)) words n l known fires tick ⌝ }
-    ensures { λ o. ⌜ o ≡ outcome (def.waitSynchronizationN (decBlock (now (block .entry))) r (take n words) tick) ⌝ }
-    ensures { λ _. ⌜ ((((not (eqb (r .r3) 0) ≡ false) × ((fires ≡ false) × (known ≡ true))) ⊎ (finding (def.waitSynchronizationN (decBlock (now (block .entry))) r (take n words) tick .kernel) ≡ 0)) → now (block .exit) ≡ left (def.waitSynchronizationN (decBlock (now (block .entry))) r (take n words) tick) (now (block .entry))) ⌝ }
+    requires { ⌜ Ready (decBlock (now block)) words n l known fires (tick .0) ⌝ }
+    ensures { λ o. ⌜ o ≡ outcome (def.waitSynchronizationN (decBlock (now (block .entry))) r (take n words) (tick .0)) ⌝ }
+    ensures { λ _. ⌜ ((((not (eqb (r .r3) 0) ≡ false) × ((fires ≡ false) × (known ≡ true))) ⊎ (finding (def.waitSynchronizationN (decBlock (now (block .entry))) r (take n words) (tick .0) .kernel) ≡ 0)) → now (block .exit) ≡ left (def.waitSynchronizationN (decBlock (now (block .entry))) r (take n words) (tick .0)) (now (block .entry))) ⌝ }
 {
     caught::catch_up_if(block, fires, tick);
     let m = places::least_of(n, 8);
@@ -189,13 +191,13 @@ fn wait_saved(
     l: [ObjectId; 8],
     known: bool,
     fires: bool,
-    tick: u64,
+    tick: Ticks,
 ) -> Outcome
     requires { ⌜ length (now block) ≡ 16384 ⌝ }
     requires { ⌜ sound? (now block) ≡ true ⌝ }
-    requires { ⌜ Ready (decBlock (now block)) words n l known fires tick ⌝ }
-    ensures { λ o. ⌜ o ≡ outcome (def.waitSynchronizationN (decBlock (now (block .entry))) r (take n words) tick) ⌝ }
-    ensures { λ _. ⌜ now (block .exit) ≡ left (def.waitSynchronizationN (decBlock (now (block .entry))) r (take n words) tick) (now (block .entry)) ⌝ }
+    requires { ⌜ Ready (decBlock (now block)) words n l known fires (tick .0) ⌝ }
+    ensures { λ o. ⌜ o ≡ outcome (def.waitSynchronizationN (decBlock (now (block .entry))) r (take n words) (tick .0)) ⌝ }
+    ensures { λ _. ⌜ now (block .exit) ≡ left (def.waitSynchronizationN (decBlock (now (block .entry))) r (take n words) (tick .0)) (now (block .entry)) ⌝ }
 {
     let mut saved = [0u8; 16384];
     codec::copy(&mut saved, 0, block);
@@ -224,12 +226,12 @@ pub fn wait_synchronization_n(
     r: Registers,
     words: [u32; 8],
     n: u32,
-    tick: u64,
+    tick: Ticks,
 ) -> Outcome
     requires { ⌜ length (now block) ≡ 16384 ⌝ }
     requires { ⌜ sound? (now block) ≡ true ⌝ }
-    ensures { λ o. ⌜ o ≡ outcome (def.waitSynchronizationN (decBlock (now (block .entry))) r (take n words) tick) ⌝ }
-    ensures { λ _. ⌜ now (block .exit) ≡ left (def.waitSynchronizationN (decBlock (now (block .entry))) r (take n words) tick) (now (block .entry)) ⌝ }
+    ensures { λ o. ⌜ o ≡ outcome (def.waitSynchronizationN (decBlock (now (block .entry))) r (take n words) (tick .0)) ⌝ }
+    ensures { λ _. ⌜ now (block .exit) ≡ left (def.waitSynchronizationN (decBlock (now (block .entry))) r (take n words) (tick .0)) (now (block .entry)) ⌝ }
 {
     let x = handles::look_up(block, words, n);
     let l = x.objects;

@@ -38,7 +38,7 @@ fn any_near(block: &[u8], l: [ObjectId; 8], n: u32) -> bool
             return false;
         }
         let o = l[i];
-        let x = read::slot_at(block, o.0);
+        let x = read::slot_at(block, o);
         let v = x.object;
         if near(v) {
             return true;

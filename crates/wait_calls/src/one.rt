@@ -7,7 +7,10 @@ use svc::Registers;
 use timer_calls::caught;
 use types::thread::ThreadOption;
 use types::thread::WaitSyscall;
+use units::Handle;
+use units::Nanos;
 use units::ObjectId;
+use units::Ticks;
 ghost use mathlib.Core.Path.{_≡_};
 ghost use mathlib.Core.Bool.{true, false};
 ghost use lib.ListN.{length};
@@ -20,15 +23,15 @@ ghost use Rattle.outcome.specs.Outcome.{outcome, left};
 ghost use Rattle.wait_calls.specs.Named.{wait1Opened};
 
 // A time-out of 0 does not wait.
-fn wait_one(block: &mut [u8], c: u32, o: ObjectId, nanos: u64, tick: u64) -> Outcome
+fn wait_one(block: &mut [u8], c: u32, o: ObjectId, nanos: Nanos, tick: Ticks) -> Outcome
     requires { ⌜ length (now block) ≡ 16384 ⌝ }
     requires { ⌜ sound? (now block) ≡ true ⌝ }
     requires { ⌜ outOfHandles? (decBlock (now block)) ≡ false ⌝ }
     requires { ⌜ decBlock (now block) .«current_thread» ≡ ThreadOption.SomeThread c ⌝ }
-    ensures { λ r. ⌜ r ≡ outcome (def.wait1As (ThreadOption.SomeThread c) (decBlock (now (block .entry))) (o .0) nanos tick) ⌝ }
-    ensures { λ _. ⌜ now (block .exit) ≡ left (def.wait1As (ThreadOption.SomeThread c) (decBlock (now (block .entry))) (o .0) nanos tick) (now (block .entry)) ⌝ }
+    ensures { λ r. ⌜ r ≡ outcome (def.wait1As (ThreadOption.SomeThread c) (decBlock (now (block .entry))) (o .0) (nanos .0) (tick .0)) ⌝ }
+    ensures { λ _. ⌜ now (block .exit) ≡ left (def.wait1As (ThreadOption.SomeThread c) (decBlock (now (block .entry))) (o .0) (nanos .0) (tick .0)) (now (block .entry)) ⌝ }
 {
-    let x = read::slot_at(block, o.0);
+    let x = read::slot_at(block, o);
     let v = x.object;
     if wait::signaled(block, v, c) {
         let found = taken::take(block, o, c);
@@ -37,7 +40,7 @@ fn wait_one(block: &mut [u8], c: u32, o: ObjectId, nanos: u64, tick: u64) -> Out
         }
         return outcome::done();
     }
-    if nanos == 0 {
+    if units::is_zero(nanos) {
         return outcome::answers(17);
     }
     let none = ObjectId(0);
@@ -57,12 +60,12 @@ fn wait_one(block: &mut [u8], c: u32, o: ObjectId, nanos: u64, tick: u64) -> Out
 }
 
 // The call once the timers have fired and the handle is open: it names o.
-fn wait_opened(block: &mut [u8], r: Registers, o: ObjectId, tick: u64) -> Outcome
+fn wait_opened(block: &mut [u8], r: Registers, o: ObjectId, tick: Ticks) -> Outcome
     requires { ⌜ length (now block) ≡ 16384 ⌝ }
     requires { ⌜ sound? (now block) ≡ true ⌝ }
     requires { ⌜ outOfHandles? (decBlock (now block)) ≡ false ⌝ }
-    ensures { λ v. ⌜ v ≡ outcome (wait1Opened (decBlock (now (block .entry))) (o .0) r tick) ⌝ }
-    ensures { λ _. ⌜ now (block .exit) ≡ left (wait1Opened (decBlock (now (block .entry))) (o .0) r tick) (now (block .entry)) ⌝ }
+    ensures { λ v. ⌜ v ≡ outcome (wait1Opened (decBlock (now (block .entry))) (o .0) r (tick .0)) ⌝ }
+    ensures { λ _. ⌜ now (block .exit) ≡ left (wait1Opened (decBlock (now (block .entry))) (o .0) r (tick .0)) (now (block .entry)) ⌝ }
 {
     if o.0 == 0 {
         return outcome::answers(16);
@@ -77,14 +80,14 @@ fn wait_opened(block: &mut [u8], r: Registers, o: ObjectId, tick: u64) -> Outcom
 }
 
 // A pseudo-handle names a thread or the process, of which a wait finds nothing; its object may have to be made.
-fn wait_pseudo(block: &mut [u8], r: Registers, tick: u64) -> Outcome
+fn wait_pseudo(block: &mut [u8], r: Registers, tick: Ticks) -> Outcome
     requires { ⌜ length (now block) ≡ 16384 ⌝ }
     requires { ⌜ sound? (now block) ≡ true ⌝ }
     requires { ⌜ pseudo (r .r0) ≡ true ⌝ }
-    ensures { λ o. ⌜ o ≡ outcome (def.waitSynchronization1 (decBlock (now (block .entry))) r tick) ⌝ }
-    ensures { λ _. ⌜ now (block .exit) ≡ left (def.waitSynchronization1 (decBlock (now (block .entry))) r tick) (now (block .entry)) ⌝ }
+    ensures { λ o. ⌜ o ≡ outcome (def.waitSynchronization1 (decBlock (now (block .entry))) r (tick .0)) ⌝ }
+    ensures { λ _. ⌜ now (block .exit) ≡ left (def.waitSynchronization1 (decBlock (now (block .entry))) r (tick .0)) (now (block .entry)) ⌝ }
 {
-    let a = caught::open_caught(block, r.r0, tick);
+    let a = caught::open_caught(block, Handle(r.r0), tick);
     if a.found != 0 {
         return outcome::refused(a.found);
     }
@@ -94,16 +97,17 @@ fn wait_pseudo(block: &mut [u8], r: Registers, tick: u64) -> Outcome
 
 // r0 handle, r2 and r3 nanoseconds. What the wait finds of the object is looked for before the timers fire, since a finding
 // must leave the block as it was; a timer that fires changes no mutex and no semaphore.
-pub fn wait_synchronization1(block: &mut [u8], r: Registers, tick: u64) -> Outcome
+pub fn wait_synchronization1(block: &mut [u8], r: Registers, tick: Ticks) -> Outcome
     requires { ⌜ length (now block) ≡ 16384 ⌝ }
     requires { ⌜ sound? (now block) ≡ true ⌝ }
-    ensures { λ o. ⌜ o ≡ outcome (def.waitSynchronization1 (decBlock (now (block .entry))) r tick) ⌝ }
-    ensures { λ _. ⌜ now (block .exit) ≡ left (def.waitSynchronization1 (decBlock (now (block .entry))) r tick) (now (block .entry)) ⌝ }
+    ensures { λ o. ⌜ o ≡ outcome (def.waitSynchronization1 (decBlock (now (block .entry))) r (tick .0)) ⌝ }
+    ensures { λ _. ⌜ now (block .exit) ≡ left (def.waitSynchronization1 (decBlock (now (block .entry))) r (tick .0)) (now (block .entry)) ⌝ }
 {
-    if svc::read::is_pseudo(r.r0) {
+    let h = Handle(r.r0);
+    if svc::read::is_pseudo(h) {
         return wait_pseudo(block, r, tick);
     }
-    let o = read::object_of(block, r.r0);
+    let o = read::resolve(block, h);
     if taken::over_now(block, o) {
         return outcome::refused(8);
     }

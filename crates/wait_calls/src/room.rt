@@ -2,6 +2,8 @@
 use object::handles;
 use objects::open;
 use rows::read;
+use units::Handle;
+use units::ObjectId;
 ghost use mathlib.Core.Path.{_≡_};
 ghost use lib.ListN.{length, take};
 ghost use Rattle.laws.specs.Logic.{_and_};
@@ -10,20 +12,21 @@ ghost use Rattle.objects.specs.Open.{makes};
 ghost use Rattle.wait_calls.specs.Room as def;
 
 // Whether the pseudo-handle p is among the first n handles, before one that names no object.
-fn met(block: &[u8], words: [u32; 8], n: u32, p: u32) -> bool
+fn met(block: &[u8], words: [u32; 8], n: u32, p: Handle) -> bool
     requires { ⌜ length (now block) ≡ 16384 ⌝ }
-    ensures { λ r. ⌜ r ≡ def.met (decBlock (now (block .entry)) .«current_thread») (decBlock (now (block .entry)) .handles) p (take n words) ⌝ }
+    ensures { λ r. ⌜ r ≡ def.met (decBlock (now (block .entry)) .«current_thread») (decBlock (now (block .entry)) .handles) (p .0) (take n words) ⌝ }
 {
+    let sought = p.0;
     let mut i: usize = 0;
     while i < 8 {
         if n <= i as u32 {
             return false;
         }
         let h = words[i];
-        if h == p {
+        if h == sought {
             return true;
         }
-        if !open::names(block, h) {
+        if !open::names(block, Handle(h)) {
             return false;
         }
         i += 1;
@@ -32,9 +35,9 @@ fn met(block: &[u8], words: [u32; 8], n: u32, p: u32) -> bool
 }
 
 // And its object is yet to be made.
-fn wants(block: &[u8], words: [u32; 8], n: u32, p: u32) -> bool
+fn wants(block: &[u8], words: [u32; 8], n: u32, p: Handle) -> bool
     requires { ⌜ length (now block) ≡ 16384 ⌝ }
-    ensures { λ r. ⌜ r ≡ (makes (decBlock (now (block .entry))) p and def.met (decBlock (now (block .entry)) .«current_thread») (decBlock (now (block .entry)) .handles) p (take n words)) ⌝ }
+    ensures { λ r. ⌜ r ≡ (makes (decBlock (now (block .entry))) (p .0) and def.met (decBlock (now (block .entry)) .«current_thread») (decBlock (now (block .entry)) .handles) (p .0) (take n words)) ⌝ }
 {
     if !open::makes(block, p) {
         return false;
@@ -63,10 +66,10 @@ pub fn lacks_room(block: &[u8], words: [u32; 8], n: u32) -> bool
     requires { ⌜ length (now block) ≡ 16384 ⌝ }
     ensures { λ r. ⌜ r ≡ def.lacksRoom (decBlock (now (block .entry)) .«current_thread») (decBlock (now (block .entry)) .handles) (decBlock (now (block .entry)) .objects) (take n words) ⌝ }
 {
-    let thread = wants(block, words, n, 0xFFFF8000);
-    let process = wants(block, words, n, 0xFFFF8001);
+    let thread = wants(block, words, n, Handle(0xFFFF8000));
+    let process = wants(block, words, n, Handle(0xFFFF8001));
     let free = codec::get32(block, 32);
-    let x = read::slot_at(block, free);
+    let x = read::slot_at(block, ObjectId(free));
     let v = x.object;
     let next = types::object::next_of(v);
     lacking(free == 0, next == 0, thread, process)

@@ -19,7 +19,7 @@ pub fn over_now(block: &[u8], o: ObjectId) -> bool
     requires { ⌜ length (now block) ≡ 16384 ⌝ }
     ensures { λ r. ⌜ r ≡ overNow (decBlock (now (block .entry)) .«current_thread») (decBlock (now (block .entry)) .threads) (objectAt (decBlock (now (block .entry)) .objects) (o .0)) ⌝ }
 {
-    let x = read::slot_at(block, o.0);
+    let x = read::slot_at(block, o);
     if !acquire::over_after(false, x) {
         return false;
     }

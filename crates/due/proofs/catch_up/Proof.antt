@@ -18,7 +18,7 @@ same-length c = search needs
 
 returns : tie.Need-returns
 returns c = let s = c .before .before .before .before in
-    (sym (none-due (s .args .b .now) (s .args .tick) (sym (c .before .timer-due .ensures) ∙ not-true _ (c .if1 .taken))), (s .pre .1 .0, s .pre .0))
+    (sym (none-due (s .args .b .now) (s .args .tick .0) (sym (c .before .timer-due .ensures) ∙ not-true _ (c .if1 .taken))), (s .pre .1 .0, s .pre .0))
 
 mark-lists-requires : tie.Need-mark-lists-requires
 mark-lists-requires c κs = search needs
@@ -36,8 +36,8 @@ returns-2 c = let s = c .before .before .before .before .before .before .before 
     let m = c .before .before .before .before .before .mark-lists .ensures in
     let due = sym (c .before .before .before .before .before .before .before .before .before .timer-due .ensures) ∙ not-false _ (c .before .before .before .before .before .before .before .before .if1 .left) in
     let r = c .before .before .catch-up-slots .ensures in
-    let p = r .0 ∙ ap encBlock (state-is b (s .args .tick) (s .pre .1 .0) (s .pre .1 .1) _ due (all-map (λ l. length l ≤ 8) syncList ts (m .1)) (m .0)) in
-    let k = back b (s .args .tick) (s .pre .1 .0) (s .pre .1 .1) _ p in
+    let p = r .0 ∙ ap encBlock (state-is b (s .args .tick .0) (s .pre .1 .0) (s .pre .1 .1) _ due (all-map (λ l. length l ≤ 8) syncList ts (m .1)) (m .0)) in
+    let k = back b (s .args .tick .0) (s .pre .1 .0) (s .pre .1 .1) _ p in
     (k .0, (k .1, r .1))
 
 pub catch-up-spec : {M : Type 1} → statement M

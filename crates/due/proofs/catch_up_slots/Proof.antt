@@ -13,13 +13,13 @@ use Rattle.due.proofs.catch_up_slots.Statement.{statement}
 use Rattle.due.proofs.catch_up_slots.Tie as tie
 
 abbrev Inv-loop : tie.InvT-loop
-Inv-loop b₀ m tick i₀ b i = (i ≤ 128) × ((length b ≡ 16384) × CaughtTo m tick b₀ i b)
+Inv-loop b₀ m tick i₀ b i = (i ≤ 128) × ((length b ≡ 16384) × CaughtTo m (tick .0) b₀ i b)
 
 abbrev μ-loop : tie.MeasureT-loop
 μ-loop b₀ m tick i₀ b i = 128 - i
 
 loop-holds : tie.Need-loop-holds Inv-loop μ-loop
-loop-holds c = let a = c .before .args in (search needs, (search needs, slots-none (a .b .now) (caughtSlot (a .m .now) (a .tick)) (c .before .pre .0) (holds (a .b .now) (c .before .pre .1))))
+loop-holds c = let a = c .before .args in (search needs, (search needs, slots-none (a .b .now) (caughtSlot (a .m .now) (a .tick .0)) (c .before .pre .0) (holds (a .b .now) (c .before .pre .1))))
 
 slot-at-requires : tie.Need-slot-at-requires Inv-loop μ-loop
 slot-at-requires c κs = search needs
@@ -39,11 +39,11 @@ element-copy-out-caught-slot c = search needs
 caught-slot-requires : tie.Need-caught-slot-requires Inv-loop μ-loop
 caught-slot-requires c κs = search needs
 
-add-put-slot : tie.Need-add-put-slot Inv-loop μ-loop
-add-put-slot c = search needs
+add-t11 : tie.Need-add-t11 Inv-loop μ-loop
+add-t11 c = search needs
 
-cast-put-slot : tie.Need-cast-put-slot Inv-loop μ-loop
-cast-put-slot c = search needs
+cast-t15 : tie.Need-cast-t15 Inv-loop μ-loop
+cast-t15 c = search needs
 
 put-slot-requires : tie.Need-put-slot-requires Inv-loop μ-loop
 put-slot-requires c κs = search needs
@@ -65,10 +65,10 @@ loop-again c = let l = c .before .before .before .before .before .loop in
       search needs,
       ⊎-elim
           (λ w.
-          let n = slots-more s (caughtSlot m (a .tick)) (l .i) (l .b) h g (w .2 .result) (w .2 .ensures ∙ ap (caughtSlot m (a .tick) (l .i + 1)) old) in
+          let n = slots-more s (caughtSlot m (a .tick .0)) (l .i) (l .b) h g (w .2 .result) (w .2 .ensures ∙ ap (caughtSlot m (a .tick .0) (l .i + 1)) old) in
           rw (w .7, w .4 .ensures) (n .rows .long, n))
           (λ w.
-          let n = slots-next s (caughtSlot m (a .tick)) (l .i) (l .b) h g (subst (λ (x : Slot). caughtSlot m (a .tick) (l .i + 1) x ≡ x) old (caught-same m (a .tick) (l .i + 1) (c .before .before .slot-at .result) (sym (c .before .may-change .ensures) ∙ w .0 .left))) in
+          let n = slots-next s (caughtSlot m (a .tick .0)) (l .i) (l .b) h g (subst (λ (x : Slot). caughtSlot m (a .tick .0) (l .i + 1) x ≡ x) old (caught-same m (a .tick .0) (l .i + 1) (c .before .before .slot-at .result) (sym (c .before .may-change .ensures) ∙ w .0 .left))) in
           rw (w .1) (n .rows .long, n))
           (c .if1 .came),
     )
@@ -79,7 +79,7 @@ same-length c = search needs
 returns : tie.Need-returns Inv-loop μ-loop
 returns c = let l = c .before .loop in
     let a = c .before .before .before .args in
-    (caught-all (a .m .now) (a .tick) (a .b .now) (l .b) (l .i) (omega arith) (l .inv .1 .1), l .inv .1 .0)
+    (caught-all (a .m .now) (a .tick .0) (a .b .now) (l .b) (l .i) (omega arith) (l .inv .1 .1), l .inv .1 .0)
 
 pub catch-up-slots-spec : {M : Type 1} → statement M
 catch-up-slots-spec =
@@ -94,8 +94,8 @@ catch-up-slots-spec =
     mul-caught-slot
     element-copy-out-caught-slot
     caught-slot-requires
-    add-put-slot
-    cast-put-slot
+    add-t11
+    cast-t15
     put-slot-requires
     add-i
     loop-less

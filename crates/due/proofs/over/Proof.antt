@@ -12,7 +12,7 @@ use Rattle.due.proofs.over.Statement.{statement}
 use Rattle.due.proofs.over.Tie as tie
 
 abbrev Inv-loop : tie.InvT-loop
-Inv-loop b tick i₀ i = (i ≤ 128) × (anyOver tick (drop i (decBlock b .objects .slots)) ≡ anyOver tick (decBlock b .objects .slots))
+Inv-loop b tick i₀ i = (i ≤ 128) × (anyOver (tick .0) (drop i (decBlock b .objects .slots)) ≡ anyOver (tick .0) (decBlock b .objects .slots))
 
 abbrev μ-loop : tie.MeasureT-loop
 μ-loop b tick i₀ i = 128 - i
@@ -30,7 +30,7 @@ returns : tie.Need-returns Inv-loop μ-loop
 unfolding anyOver
 returns c = let d = c .before .before .before .before in
     let a = d .before .before .args in
-    sym (over-in (a .b .now) (a .tick) ∙ look-hit (a .b .now) (λ (x : Slot). overOf (x .object) (a .tick)) (anyOver (a .tick)) refl (λ x xs. refl) (d .loop .i) (d .loop .inv .1) (omega arith) (sym (c .before .slot-over .ensures ∙ ap (λ (x : Slot). overOf (x .object) (a .tick)) (c .before .before .slot-at .ensures)) ∙ c .if1 .taken))
+    sym (over-in (a .b .now) (a .tick .0) ∙ look-hit (a .b .now) (λ (x : Slot). overOf (x .object) (a .tick .0)) (anyOver (a .tick .0)) refl (λ x xs. refl) (d .loop .i) (d .loop .inv .1) (omega arith) (sym (c .before .slot-over .ensures ∙ ap (λ (x : Slot). overOf (x .object) (a .tick .0)) (c .before .before .slot-at .ensures)) ∙ c .if1 .taken))
 
 add-i : tie.Need-add-i Inv-loop μ-loop
 add-i c = search needs
@@ -42,13 +42,13 @@ loop-again : tie.Need-loop-again Inv-loop μ-loop
 unfolding anyOver
 loop-again c = let d = c .before .before .before .before in
     let a = d .before .before .args in
-    (search needs, look-miss (a .b .now) (λ (x : Slot). overOf (x .object) (a .tick)) (anyOver (a .tick)) refl (λ x xs. refl) (d .loop .i) (d .loop .inv .1) (omega arith) (sym (c .before .slot-over .ensures ∙ ap (λ (x : Slot). overOf (x .object) (a .tick)) (c .before .before .slot-at .ensures)) ∙ c .if1 .left))
+    (search needs, look-miss (a .b .now) (λ (x : Slot). overOf (x .object) (a .tick .0)) (anyOver (a .tick .0)) refl (λ x xs. refl) (d .loop .i) (d .loop .inv .1) (omega arith) (sym (c .before .slot-over .ensures ∙ ap (λ (x : Slot). overOf (x .object) (a .tick .0)) (c .before .before .slot-at .ensures)) ∙ c .if1 .left))
 
 returns-2 : tie.Need-returns-2 Inv-loop μ-loop
 unfolding anyOver
 returns-2 c = let d = c .before in
     let a = d .before .before .args in
-    sym (over-in (a .b .now) (a .tick) ∙ look-end (a .b .now) (λ (x : Slot). overOf (x .object) (a .tick)) (anyOver (a .tick)) refl (λ x xs. refl) (d .loop .i) (d .loop .inv .1) (omega arith))
+    sym (over-in (a .b .now) (a .tick .0) ∙ look-end (a .b .now) (λ (x : Slot). overOf (x .object) (a .tick .0)) (anyOver (a .tick .0)) refl (λ x xs. refl) (d .loop .i) (d .loop .inv .1) (omega arith))
 
 pub over-spec : {M : Type 1} → statement M
 over-spec =

@@ -12,7 +12,7 @@ use Rattle.due.proofs.timer_due.Statement.{statement}
 use Rattle.due.proofs.timer_due.Tie as tie
 
 abbrev Inv-loop : tie.InvT-loop
-Inv-loop b tick i₀ i = (i ≤ 128) × (timerDue tick (drop i (decBlock b .objects .slots)) ≡ timerDue tick (decBlock b .objects .slots))
+Inv-loop b tick i₀ i = (i ≤ 128) × (timerDue (tick .0) (drop i (decBlock b .objects .slots)) ≡ timerDue (tick .0) (decBlock b .objects .slots))
 
 abbrev μ-loop : tie.MeasureT-loop
 μ-loop b tick i₀ i = 128 - i
@@ -30,7 +30,7 @@ returns : tie.Need-returns Inv-loop μ-loop
 unfolding timerDue
 returns c = let d = c .before .before .before .before in
     let a = d .before .before .args in
-    sym (look-hit (a .b .now) (λ (x : Slot). dueBy (dueOf (x .object)) (a .tick)) (timerDue (a .tick)) refl (λ x xs. refl) (d .loop .i) (d .loop .inv .1) (omega arith) (sym (c .before .slot-due .ensures ∙ ap (λ (x : Slot). dueBy (dueOf (x .object)) (a .tick)) (c .before .before .slot-at .ensures)) ∙ c .if1 .taken))
+    sym (look-hit (a .b .now) (λ (x : Slot). dueBy (dueOf (x .object)) (a .tick .0)) (timerDue (a .tick .0)) refl (λ x xs. refl) (d .loop .i) (d .loop .inv .1) (omega arith) (sym (c .before .slot-due .ensures ∙ ap (λ (x : Slot). dueBy (dueOf (x .object)) (a .tick .0)) (c .before .before .slot-at .ensures)) ∙ c .if1 .taken))
 
 add-i : tie.Need-add-i Inv-loop μ-loop
 add-i c = search needs
@@ -42,13 +42,13 @@ loop-again : tie.Need-loop-again Inv-loop μ-loop
 unfolding timerDue
 loop-again c = let d = c .before .before .before .before in
     let a = d .before .before .args in
-    (search needs, look-miss (a .b .now) (λ (x : Slot). dueBy (dueOf (x .object)) (a .tick)) (timerDue (a .tick)) refl (λ x xs. refl) (d .loop .i) (d .loop .inv .1) (omega arith) (sym (c .before .slot-due .ensures ∙ ap (λ (x : Slot). dueBy (dueOf (x .object)) (a .tick)) (c .before .before .slot-at .ensures)) ∙ c .if1 .left))
+    (search needs, look-miss (a .b .now) (λ (x : Slot). dueBy (dueOf (x .object)) (a .tick .0)) (timerDue (a .tick .0)) refl (λ x xs. refl) (d .loop .i) (d .loop .inv .1) (omega arith) (sym (c .before .slot-due .ensures ∙ ap (λ (x : Slot). dueBy (dueOf (x .object)) (a .tick .0)) (c .before .before .slot-at .ensures)) ∙ c .if1 .left))
 
 returns-2 : tie.Need-returns-2 Inv-loop μ-loop
 unfolding timerDue
 returns-2 c = let d = c .before in
     let a = d .before .before .args in
-    sym (look-end (a .b .now) (λ (x : Slot). dueBy (dueOf (x .object)) (a .tick)) (timerDue (a .tick)) refl (λ x xs. refl) (d .loop .i) (d .loop .inv .1) (omega arith))
+    sym (look-end (a .b .now) (λ (x : Slot). dueBy (dueOf (x .object)) (a .tick .0)) (timerDue (a .tick .0)) refl (λ x xs. refl) (d .loop .i) (d .loop .inv .1) (omega arith))
 
 pub timer-due-spec : {M : Type 1} → statement M
 timer-due-spec =

@@ -29,11 +29,11 @@ slot-at-requires c κs = search needs
 is-mutex-requires : tie.Need-is-mutex-requires Inv-loop μ-loop
 is-mutex-requires c κs = search needs
 
-add-put-slot : tie.Need-add-put-slot Inv-loop μ-loop
-add-put-slot c = search needs
+add-t12 : tie.Need-add-t12 Inv-loop μ-loop
+add-t12 c = search needs
 
-cast-put-slot : tie.Need-cast-put-slot Inv-loop μ-loop
-cast-put-slot c = search needs
+cast-t13 : tie.Need-cast-t13 Inv-loop μ-loop
+cast-t13 c = search needs
 
 disowned-slot-requires : tie.Need-disowned-slot-requires Inv-loop μ-loop
 disowned-slot-requires c κs = search needs
@@ -81,8 +81,8 @@ disown-spec =
     loop-holds
     slot-at-requires
     is-mutex-requires
-    add-put-slot
-    cast-put-slot
+    add-t12
+    cast-t13
     disowned-slot-requires
     put-slot-requires
     add-i

@@ -39,21 +39,21 @@ returns : tie.Need-returns
 unfolding guest.dispatch
 returns c = let a = c .before .before .before .before .before .args in
     let l = lent (a .block .now) (a .bank .now) (a .processor .now) (a .window .now) [] in
-    change-1 _ (refused (a .window-base) (a .number) l) (work (a .window-base) (a .number) (a .tick) l) (result (a .window-base) (a .number) (a .tick) l) l (and-no _ _ (ne-eqb _ 16384 (c .if1 .taken)))
+    change-1 _ (refused (a .window-base) (a .number) l) (work (a .window-base) (a .number) (a .tick .0) l) (result (a .window-base) (a .number) (a .tick .0) l) l (and-no _ _ (ne-eqb _ 16384 (c .if1 .taken)))
 
 -- src/lib.rt:29:9
 returns-2 : tie.Need-returns-2
 unfolding guest.dispatch
 returns-2 c = let a = c .before .before .before .before .before .before .args in
     let l = lent (a .block .now) (a .bank .now) (a .processor .now) (a .window .now) [] in
-    change-1 _ (refused (a .window-base) (a .number) l) (work (a .window-base) (a .number) (a .tick) l) (result (a .window-base) (a .number) (a .tick) l) l (and-yes _ _ (eq-eqb _ 16384 (c .before .if1 .left)) ∙ and-no _ _ (ne-eqb _ 6656 (c .if2 .taken)))
+    change-1 _ (refused (a .window-base) (a .number) l) (work (a .window-base) (a .number) (a .tick .0) l) (result (a .window-base) (a .number) (a .tick .0) l) l (and-yes _ _ (eq-eqb _ 16384 (c .before .if1 .left)) ∙ and-no _ _ (ne-eqb _ 6656 (c .if2 .taken)))
 
 -- src/lib.rt:32:9
 returns-3 : tie.Need-returns-3
 unfolding guest.dispatch
 returns-3 c = let a = c .before .before .before .before .before .before .before .args in
     let l = lent (a .block .now) (a .bank .now) (a .processor .now) (a .window .now) [] in
-    change-1 _ (refused (a .window-base) (a .number) l) (work (a .window-base) (a .number) (a .tick) l) (result (a .window-base) (a .number) (a .tick) l) l (and-yes _ _ (eq-eqb _ 16384 (c .before .before .if1 .left)) ∙ (and-yes _ _ (eq-eqb _ 6656 (c .before .if2 .left)) ∙ and-no _ _ (ne-eqb _ 208 (c .if3 .taken))))
+    change-1 _ (refused (a .window-base) (a .number) l) (work (a .window-base) (a .number) (a .tick .0) l) (result (a .window-base) (a .number) (a .tick .0) l) l (and-yes _ _ (eq-eqb _ 16384 (c .before .before .if1 .left)) ∙ (and-yes _ _ (eq-eqb _ 6656 (c .before .if2 .left)) ∙ and-no _ _ (ne-eqb _ 208 (c .if3 .taken))))
 
 -- src/lib.rt:34:9
 window-ok-requires : tie.Need-window-ok-requires
@@ -68,7 +68,7 @@ returns-4 : tie.Need-returns-4
 unfolding guest.dispatch
 returns-4 c = let a = c .before .before .before .before .before .before .before .before .before .before .args in
     let l = lent (a .block .now) (a .bank .now) (a .processor .now) (a .window .now) [] in
-    change-1 _ (refused (a .window-base) (a .number) l) (work (a .window-base) (a .number) (a .tick) l) (result (a .window-base) (a .number) (a .tick) l) l (and-yes _ _ (eq-eqb _ 16384 (c .before .before .before .before .before .if1 .left)) ∙ (and-yes _ _ (eq-eqb _ 6656 (c .before .before .before .before .if2 .left)) ∙ (and-yes _ _ (eq-eqb _ 208 (c .before .before .before .if3 .left)) ∙ (sym (c .before .window-ok .ensures) ∙ not-true _ (c .if4 .taken)))))
+    change-1 _ (refused (a .window-base) (a .number) l) (work (a .window-base) (a .number) (a .tick .0) l) (result (a .window-base) (a .number) (a .tick .0) l) l (and-yes _ _ (eq-eqb _ 16384 (c .before .before .before .before .before .if1 .left)) ∙ (and-yes _ _ (eq-eqb _ 6656 (c .before .before .before .before .if2 .left)) ∙ (and-yes _ _ (eq-eqb _ 208 (c .before .before .before .if3 .left)) ∙ (sym (c .before .window-ok .ensures) ∙ not-true _ (c .if4 .taken)))))
 
 -- src/lib.rt:37:9
 block-ok-requires : tie.Need-block-ok-requires
@@ -87,7 +87,7 @@ returns-5 : tie.Need-returns-5
 unfolding guest.dispatch
 returns-5 c = let a = c .before .before .before .before .before .before .before .before .before .before .before .before .before .args in
     let l = lent (a .block .now) (a .bank .now) (a .processor .now) (a .window .now) [] in
-    change-2 _ (refused (a .window-base) (a .number) l) (work (a .window-base) (a .number) (a .tick) l) (result (a .window-base) (a .number) (a .tick) l) l (true-and _ _ (eq-eqb _ 16384 (c .before .before .before .before .before .before .before .before .if1 .left)) (true-and _ _ (eq-eqb _ 6656 (c .before .before .before .before .before .before .before .if2 .left)) (true-and _ _ (eq-eqb _ 208 (c .before .before .before .before .before .before .if3 .left)) (sym (c .before .before .before .before .window-ok .ensures) ∙ not-false _ (c .before .before .before .if4 .left))))) (decBlock (a .block .now)) refl _ (c .before .block-ok .ensures) (not-true _ (c .if5 .taken))
+    change-2 _ (refused (a .window-base) (a .number) l) (work (a .window-base) (a .number) (a .tick .0) l) (result (a .window-base) (a .number) (a .tick .0) l) l (true-and _ _ (eq-eqb _ 16384 (c .before .before .before .before .before .before .before .before .if1 .left)) (true-and _ _ (eq-eqb _ 6656 (c .before .before .before .before .before .before .before .if2 .left)) (true-and _ _ (eq-eqb _ 208 (c .before .before .before .before .before .before .if3 .left)) (sym (c .before .before .before .before .window-ok .ensures) ∙ not-false _ (c .before .before .before .if4 .left))))) (decBlock (a .block .now)) refl _ (c .before .block-ok .ensures) (not-true _ (c .if5 .taken))
 
 -- src/lib.rt:40:9
 registers-for-requires : tie.Need-registers-for-requires
@@ -118,7 +118,7 @@ returns-6 c = let a = c .before .before .before .before .before .before .before 
     let r = c .before .before .before .registers-for .result in
     let q : c .before .refusal .result ≡ refused (a .window-base) (a .number) l k =
     c .before .refusal .ensures ∙ ap (λ (x : Registers). refusal (a .window-base) (length (a .window .now)) (a .number) x k) (c .before .before .before .registers-for .ensures) in
-    change-own _ (refused (a .window-base) (a .number) l) (work (a .window-base) (a .number) (a .tick) l) (result (a .window-base) (a .number) (a .tick) l) l (true-and _ _ (eq-eqb _ 16384 (c .before .before .before .before .before .before .before .before .before .before .before .before .before .if1 .left)) (true-and _ _ (eq-eqb _ 6656 (c .before .before .before .before .before .before .before .before .before .before .before .before .if2 .left)) (true-and _ _ (eq-eqb _ 208 (c .before .before .before .before .before .before .before .before .before .before .before .if3 .left)) (sym (c .before .before .before .before .before .before .before .before .before .window-ok .ensures) ∙ not-false _ (c .before .before .before .before .before .before .before .before .if4 .left))))) (decBlock (a .block .now)) refl _ (c .before .before .before .before .before .before .block-ok .ensures) (not-false _ (c .before .before .before .before .before .if5 .left)) _ q (c .if6 .taken)
+    change-own _ (refused (a .window-base) (a .number) l) (work (a .window-base) (a .number) (a .tick .0) l) (result (a .window-base) (a .number) (a .tick .0) l) l (true-and _ _ (eq-eqb _ 16384 (c .before .before .before .before .before .before .before .before .before .before .before .before .before .if1 .left)) (true-and _ _ (eq-eqb _ 6656 (c .before .before .before .before .before .before .before .before .before .before .before .before .if2 .left)) (true-and _ _ (eq-eqb _ 208 (c .before .before .before .before .before .before .before .before .before .before .before .if3 .left)) (sym (c .before .before .before .before .before .before .before .before .before .window-ok .ensures) ∙ not-false _ (c .before .before .before .before .before .before .before .before .if4 .left))))) (decBlock (a .block .now)) refl _ (c .before .before .before .before .before .before .block-ok .ensures) (not-false _ (c .before .before .before .before .before .if5 .left)) _ q (c .if6 .taken)
 
 -- src/lib.rt:45:9
 words-read-requires : tie.Need-words-read-requires
@@ -162,11 +162,11 @@ returns-7 c = let a = c .before .before .before .before .before .before .before 
     let ws : List ℕ = take (c .before .before .before .before .before .before .before .before .before .before .words-read .result) (c .before .before .before .before .before .before .before .before .words-in .result) in
     let q : c .before .before .before .before .before .before .before .before .before .before .before .before .refusal .result ≡ refused (a .window-base) (a .number) l k =
     c .before .before .before .before .before .before .before .before .before .before .before .before .refusal .ensures ∙ ap (λ (x : Registers). refusal (a .window-base) (length (a .window .now)) (a .number) x k) (c .before .before .before .before .before .before .before .before .before .before .before .before .before .before .registers-for .ensures) in
-    let s : call (a .number) k r ws (a .tick) ≡ served (a .window-base) (a .number) (a .tick) l k =
-    ap (λ (x : List ℕ). call (a .number) k r x (a .tick)) (c .before .before .before .before .before .before .before .before .words-in .ensures) ∙ ap (λ (x : Registers). call (a .number) k x (wordsIn (a .window-base) (a .window .now) (a .number) x) (a .tick)) (c .before .before .before .before .before .before .before .before .before .before .before .before .before .before .registers-for .ensures) in
-    let f : c .before .before .before .before .call .result .found ≡ finding (served (a .window-base) (a .number) (a .tick) l k .kernel) = ap (λ (x : Outcome). x .found) (c .before .before .before .before .call .ensures .0) ∙ found-is (call (a .number) k r ws (a .tick)) ∙ ap (λ (x : Served). finding (x .kernel)) s in
-    let e = c .before .before .before .before .call .ensures .1 ∙ left-found (call (a .number) k r ws (a .tick)) (a .block .now) (λ z. c .if7 .taken (f ∙ ap (λ (x : Served). finding (x .kernel)) (sym s) ∙ z)) in
-    rw e (change-found _ (refused (a .window-base) (a .number) l) (work (a .window-base) (a .number) (a .tick) l) (result (a .window-base) (a .number) (a .tick) l) l (true-and _ _ (eq-eqb _ 16384 (c .before .before .before .before .before .before .before .before .before .before .before .before .before .before .before .before .before .before .before .before .before .before .before .before .if1 .left)) (true-and _ _ (eq-eqb _ 6656 (c .before .before .before .before .before .before .before .before .before .before .before .before .before .before .before .before .before .before .before .before .before .before .before .if2 .left)) (true-and _ _ (eq-eqb _ 208 (c .before .before .before .before .before .before .before .before .before .before .before .before .before .before .before .before .before .before .before .before .before .before .if3 .left)) (sym (c .before .before .before .before .before .before .before .before .before .before .before .before .before .before .before .before .before .before .before .before .window-ok .ensures) ∙ not-false _ (c .before .before .before .before .before .before .before .before .before .before .before .before .before .before .before .before .before .before .before .if4 .left))))) (decBlock (a .block .now)) refl _ (c .before .before .before .before .before .before .before .before .before .before .before .before .before .before .before .before .before .block-ok .ensures) (not-false _ (c .before .before .before .before .before .before .before .before .before .before .before .before .before .before .before .before .if5 .left)) _ q (c .before .before .before .before .before .before .before .before .before .before .before .if6 .left) _ f (c .if7 .taken))
+    let s : call (a .number) k r ws (a .tick .0) ≡ served (a .window-base) (a .number) (a .tick .0) l k =
+    ap (λ (x : List ℕ). call (a .number) k r x (a .tick .0)) (c .before .before .before .before .before .before .before .before .words-in .ensures) ∙ ap (λ (x : Registers). call (a .number) k x (wordsIn (a .window-base) (a .window .now) (a .number) x) (a .tick .0)) (c .before .before .before .before .before .before .before .before .before .before .before .before .before .before .registers-for .ensures) in
+    let f : c .before .before .before .before .call .result .found ≡ finding (served (a .window-base) (a .number) (a .tick .0) l k .kernel) = ap (λ (x : Outcome). x .found) (c .before .before .before .before .call .ensures .0) ∙ found-is (call (a .number) k r ws (a .tick .0)) ∙ ap (λ (x : Served). finding (x .kernel)) s in
+    let e = c .before .before .before .before .call .ensures .1 ∙ left-found (call (a .number) k r ws (a .tick .0)) (a .block .now) (λ z. c .if7 .taken (f ∙ ap (λ (x : Served). finding (x .kernel)) (sym s) ∙ z)) in
+    rw e (change-found _ (refused (a .window-base) (a .number) l) (work (a .window-base) (a .number) (a .tick .0) l) (result (a .window-base) (a .number) (a .tick .0) l) l (true-and _ _ (eq-eqb _ 16384 (c .before .before .before .before .before .before .before .before .before .before .before .before .before .before .before .before .before .before .before .before .before .before .before .before .if1 .left)) (true-and _ _ (eq-eqb _ 6656 (c .before .before .before .before .before .before .before .before .before .before .before .before .before .before .before .before .before .before .before .before .before .before .before .if2 .left)) (true-and _ _ (eq-eqb _ 208 (c .before .before .before .before .before .before .before .before .before .before .before .before .before .before .before .before .before .before .before .before .before .before .if3 .left)) (sym (c .before .before .before .before .before .before .before .before .before .before .before .before .before .before .before .before .before .before .before .before .window-ok .ensures) ∙ not-false _ (c .before .before .before .before .before .before .before .before .before .before .before .before .before .before .before .before .before .before .before .if4 .left))))) (decBlock (a .block .now)) refl _ (c .before .before .before .before .before .before .before .before .before .before .before .before .before .before .before .before .before .block-ok .ensures) (not-false _ (c .before .before .before .before .before .before .before .before .before .before .before .before .before .before .before .before .if5 .left)) _ q (c .before .before .before .before .before .before .before .before .before .before .before .if6 .left) _ f (c .if7 .taken))
 
 -- src/lib.rt:55:5
 put-bank-requires : tie.Need-put-bank-requires
@@ -175,7 +175,7 @@ put-bank-requires c κs = let a = c .before .before .before .before .before .bef
     let k = decBlock (a .block .now) in
     let r = c .before .before .before .before .before .before .before .before .before .before .before .before .before .before .before .registers-for .result in
     let ws : List ℕ = take (c .before .before .before .before .before .before .before .before .before .before .before .words-read .result) (c .before .before .before .before .before .before .before .before .before .words-in .result) in
-    (c .before .before .before .before .before .before .before .before .before .before .before .before .before .before .before .before .before .before .before .before .before .before .before .before .if2 .left, rw (c .before .before .before .before .before .before .before .made-by .ensures) (call-made (a .number) k r ws (a .tick) (nothing-full (call (a .number) k r ws (a .tick) .kernel) (sym (found-is (call (a .number) k r ws (a .tick))) ∙ sym (ap (λ (x : Outcome). x .found) (c .before .before .before .before .before .call .ensures .0)) ∙ c .before .if7 .left))))
+    (c .before .before .before .before .before .before .before .before .before .before .before .before .before .before .before .before .before .before .before .before .before .before .before .before .if2 .left, rw (c .before .before .before .before .before .before .before .made-by .ensures) (call-made (a .number) k r ws (a .tick .0) (nothing-full (call (a .number) k r ws (a .tick .0) .kernel) (sym (found-is (call (a .number) k r ws (a .tick .0))) ∙ sym (ap (λ (x : Outcome). x .found) (c .before .before .before .before .before .call .ensures .0)) ∙ c .before .if7 .left))))
 
 -- src/lib.rt:56:5
 put-registers-requires : tie.Need-put-registers-requires
@@ -188,8 +188,8 @@ put-word-requires c κs = let a = c .before .before .before .before .before .bef
     let k = decBlock (a .block .now) in
     let r = c .before .before .before .before .before .before .before .before .before .before .before .before .before .before .before .before .before .before .before .before .before .before .before .registers-for .result in
     let ws : List ℕ = take (c .before .before .before .before .before .before .before .before .before .before .before .before .before .before .before .before .before .before .before .words-read .result) (c .before .before .before .before .before .before .before .before .before .before .before .before .before .before .before .before .before .words-in .result) in
-    subst (λ (x : Outcome). wordFits (a .window-base) (length (a .window .now)) (r .r1) (x .word) ≡ true) (sym (c .before .before .before .before .before .before .before .before .before .before .before .before .before .call .ensures .0 ∙ outcome-0 (call (a .number) k r ws (a .tick)) (sym (found-is (call (a .number) k r ws (a .tick))) ∙ sym (ap (λ (x : Outcome). x .found) (c .before .before .before .before .before .before .before .before .before .before .before .before .before .call .ensures .0)) ∙ c .before .before .before .before .before .before .before .before .before .if7 .left)))
-    (word-fits (a .window-base) (length (a .window .now)) (a .number) k r ws (a .tick) ((asked (a .window-base) (length (a .window .now)) (a .number) r k (sym (c .before .before .before .before .before .before .before .before .before .before .before .before .before .before .before .before .before .before .before .before .before .refusal .ensures) ∙ c .before .before .before .before .before .before .before .before .before .before .before .before .before .before .before .before .before .before .before .before .if6 .left)) .1))
+    subst (λ (x : Outcome). wordFits (a .window-base) (length (a .window .now)) (r .r1) (x .word) ≡ true) (sym (c .before .before .before .before .before .before .before .before .before .before .before .before .before .call .ensures .0 ∙ outcome-0 (call (a .number) k r ws (a .tick .0)) (sym (found-is (call (a .number) k r ws (a .tick .0))) ∙ sym (ap (λ (x : Outcome). x .found) (c .before .before .before .before .before .before .before .before .before .before .before .before .before .call .ensures .0)) ∙ c .before .before .before .before .before .before .before .before .before .if7 .left)))
+    (word-fits (a .window-base) (length (a .window .now)) (a .number) k r ws (a .tick .0) ((asked (a .window-base) (length (a .window .now)) (a .number) r k (sym (c .before .before .before .before .before .before .before .before .before .before .before .before .before .before .before .before .before .before .before .before .before .refusal .ensures) ∙ c .before .before .before .before .before .before .before .before .before .before .before .before .before .before .before .before .before .before .before .before .if6 .left)) .1))
 
 -- src/lib.rt:14:1
 same-length-10 : tie.Need-same-length-10
@@ -217,15 +217,15 @@ returns-8 c = let a = c .before .before .before .before .before .before .before 
     let ws : List ℕ = take (c .before .before .before .before .before .before .before .before .before .before .before .before .before .before .before .before .before .before .before .before .before .before .words-read .result) (c .before .before .before .before .before .before .before .before .before .before .before .before .before .before .before .before .before .before .before .before .words-in .result) in
     let q : c .before .before .before .before .before .before .before .before .before .before .before .before .before .before .before .before .before .before .before .before .before .before .before .before .refusal .result ≡ refused (a .window-base) (a .number) l k =
     c .before .before .before .before .before .before .before .before .before .before .before .before .before .before .before .before .before .before .before .before .before .before .before .before .refusal .ensures ∙ ap (λ (x : Registers). refusal (a .window-base) (length (a .window .now)) (a .number) x k) (c .before .before .before .before .before .before .before .before .before .before .before .before .before .before .before .before .before .before .before .before .before .before .before .before .before .before .registers-for .ensures) in
-    let s : call (a .number) k r ws (a .tick) ≡ served (a .window-base) (a .number) (a .tick) l k =
-    ap (λ (x : List ℕ). call (a .number) k r x (a .tick)) (c .before .before .before .before .before .before .before .before .before .before .before .before .before .before .before .before .before .before .before .before .words-in .ensures) ∙ ap (λ (x : Registers). call (a .number) k x (wordsIn (a .window-base) (a .window .now) (a .number) x) (a .tick)) (c .before .before .before .before .before .before .before .before .before .before .before .before .before .before .before .before .before .before .before .before .before .before .before .before .before .before .registers-for .ensures) in
-    let z = (sym (found-is (call (a .number) k r ws (a .tick))) ∙ sym (ap (λ (x : Outcome). x .found) (c .before .before .before .before .before .before .before .before .before .before .before .before .before .before .before .before .call .ensures .0)) ∙ c .before .before .before .before .before .before .before .before .before .before .before .before .if7 .left) in
-    let z′ : finding (served (a .window-base) (a .number) (a .tick) l k .kernel) ≡ 0 = ap (λ (x : Served). finding (x .kernel)) (sym s) ∙ z in
-    let o : c .before .before .before .before .before .before .before .before .before .before .before .before .before .before .before .before .call .result ≡ accepted (served (a .window-base) (a .number) (a .tick) l k) = c .before .before .before .before .before .before .before .before .before .before .before .before .before .before .before .before .call .ensures .0 ∙ outcome-0 (call (a .number) k r ws (a .tick)) z ∙ ap accepted s in
-    let e = c .before .before .before .before .before .before .before .before .before .before .before .before .before .before .before .before .call .ensures .1 ∙ left-0 (call (a .number) k r ws (a .tick)) (a .block .now) z ∙ ap (λ (x : Served). encBlock (x .kernel)) s in
+    let s : call (a .number) k r ws (a .tick .0) ≡ served (a .window-base) (a .number) (a .tick .0) l k =
+    ap (λ (x : List ℕ). call (a .number) k r x (a .tick .0)) (c .before .before .before .before .before .before .before .before .before .before .before .before .before .before .before .before .before .before .before .before .words-in .ensures) ∙ ap (λ (x : Registers). call (a .number) k x (wordsIn (a .window-base) (a .window .now) (a .number) x) (a .tick .0)) (c .before .before .before .before .before .before .before .before .before .before .before .before .before .before .before .before .before .before .before .before .before .before .before .before .before .before .registers-for .ensures) in
+    let z = (sym (found-is (call (a .number) k r ws (a .tick .0))) ∙ sym (ap (λ (x : Outcome). x .found) (c .before .before .before .before .before .before .before .before .before .before .before .before .before .before .before .before .call .ensures .0)) ∙ c .before .before .before .before .before .before .before .before .before .before .before .before .if7 .left) in
+    let z′ : finding (served (a .window-base) (a .number) (a .tick .0) l k .kernel) ≡ 0 = ap (λ (x : Served). finding (x .kernel)) (sym s) ∙ z in
+    let o : c .before .before .before .before .before .before .before .before .before .before .before .before .before .before .before .before .call .result ≡ accepted (served (a .window-base) (a .number) (a .tick .0) l k) = c .before .before .before .before .before .before .before .before .before .before .before .before .before .before .before .before .call .ensures .0 ∙ outcome-0 (call (a .number) k r ws (a .tick .0)) z ∙ ap accepted s in
+    let e = c .before .before .before .before .before .before .before .before .before .before .before .before .before .before .before .before .call .ensures .1 ∙ left-0 (call (a .number) k r ws (a .tick .0)) (a .block .now) z ∙ ap (λ (x : Served). encBlock (x .kernel)) s in
     let m = c .before .before .before .before .before .before .before .before .before .before .put-bank .ensures ∙ ap (λ (x : Made). bankMade (a .number) (a .bank .now) x r) (c .before .before .before .before .before .before .before .before .before .before .before .before .before .before .before .before .before .before .made-by .ensures) ∙ bank-made (a .number) (a .bank .now) k r in
     rw (e, m, c .before .before .before .before .before .before .put-registers .ensures, c .before .before .put-word .ensures, o, c .before .before .before .before .before .before .before .before .before .before .before .before .before .before .before .before .before .before .before .before .before .before .before .before .before .before .registers-for .ensures)
-    (change-0 _ (refused (a .window-base) (a .number) l) (work (a .window-base) (a .number) (a .tick) l) (result (a .window-base) (a .number) (a .tick) l) l (true-and _ _ (eq-eqb _ 16384 (c .before .before .before .before .before .before .before .before .before .before .before .before .before .before .before .before .before .before .before .before .before .before .before .before .before .before .before .before .before .before .before .before .before .before .before .before .if1 .left)) (true-and _ _ (eq-eqb _ 6656 (c .before .before .before .before .before .before .before .before .before .before .before .before .before .before .before .before .before .before .before .before .before .before .before .before .before .before .before .before .before .before .before .before .before .before .before .if2 .left)) (true-and _ _ (eq-eqb _ 208 (c .before .before .before .before .before .before .before .before .before .before .before .before .before .before .before .before .before .before .before .before .before .before .before .before .before .before .before .before .before .before .before .before .before .before .if3 .left)) (sym (c .before .before .before .before .before .before .before .before .before .before .before .before .before .before .before .before .before .before .before .before .before .before .before .before .before .before .before .before .before .before .before .before .window-ok .ensures) ∙ not-false _ (c .before .before .before .before .before .before .before .before .before .before .before .before .before .before .before .before .before .before .before .before .before .before .before .before .before .before .before .before .before .before .before .if4 .left))))) (decBlock (a .block .now)) refl _ (c .before .before .before .before .before .before .before .before .before .before .before .before .before .before .before .before .before .before .before .before .before .before .before .before .before .before .before .before .before .block-ok .ensures) (not-false _ (c .before .before .before .before .before .before .before .before .before .before .before .before .before .before .before .before .before .before .before .before .before .before .before .before .before .before .before .before .if5 .left)) _ q (c .before .before .before .before .before .before .before .before .before .before .before .before .before .before .before .before .before .before .before .before .before .before .before .if6 .left) 0 (sym z′) refl)
+    (change-0 _ (refused (a .window-base) (a .number) l) (work (a .window-base) (a .number) (a .tick .0) l) (result (a .window-base) (a .number) (a .tick .0) l) l (true-and _ _ (eq-eqb _ 16384 (c .before .before .before .before .before .before .before .before .before .before .before .before .before .before .before .before .before .before .before .before .before .before .before .before .before .before .before .before .before .before .before .before .before .before .before .before .if1 .left)) (true-and _ _ (eq-eqb _ 6656 (c .before .before .before .before .before .before .before .before .before .before .before .before .before .before .before .before .before .before .before .before .before .before .before .before .before .before .before .before .before .before .before .before .before .before .before .if2 .left)) (true-and _ _ (eq-eqb _ 208 (c .before .before .before .before .before .before .before .before .before .before .before .before .before .before .before .before .before .before .before .before .before .before .before .before .before .before .before .before .before .before .before .before .before .before .if3 .left)) (sym (c .before .before .before .before .before .before .before .before .before .before .before .before .before .before .before .before .before .before .before .before .before .before .before .before .before .before .before .before .before .before .before .before .window-ok .ensures) ∙ not-false _ (c .before .before .before .before .before .before .before .before .before .before .before .before .before .before .before .before .before .before .before .before .before .before .before .before .before .before .before .before .before .before .before .if4 .left))))) (decBlock (a .block .now)) refl _ (c .before .before .before .before .before .before .before .before .before .before .before .before .before .before .before .before .before .before .before .before .before .before .before .before .before .before .before .before .before .block-ok .ensures) (not-false _ (c .before .before .before .before .before .before .before .before .before .before .before .before .before .before .before .before .before .before .before .before .before .before .before .before .before .before .before .before .if5 .left)) _ q (c .before .before .before .before .before .before .before .before .before .before .before .before .before .before .before .before .before .before .before .before .before .before .before .if6 .left) 0 (sym z′) refl)
 
 pub operate-spec : {M : Type 1} → statement M
 operate-spec =

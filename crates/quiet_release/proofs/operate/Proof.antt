@@ -15,13 +15,13 @@ returns : tie.Need-returns
 unfolding operation.quietRelease
 returns c =
     let a = c .before .before .before .args in
-    inspect-1 _ (λ k. releaseBytes (quietRelease k (a .handle) (a .tick))) (lent (a .block .now) [] [] [] (a .answer .now)) (and-no _ _ (ne-eqb _ 16384 (c .if1 .taken)))
+    inspect-1 _ (λ k. releaseBytes (quietRelease k (a .handle .0) (a .tick .0))) (lent (a .block .now) [] [] [] (a .answer .now)) (and-no _ _ (ne-eqb _ 16384 (c .if1 .taken)))
 
 returns-2 : tie.Need-returns-2
 unfolding operation.quietRelease
 returns-2 c =
     let a = c .before .before .before .before .args in
-    inspect-1 _ (λ k. releaseBytes (quietRelease k (a .handle) (a .tick))) (lent (a .block .now) [] [] [] (a .answer .now)) (and-yes _ _ (eq-eqb _ 16384 (c .before .if1 .left)) ∙ ne-eqb _ 12 (c .if2 .taken))
+    inspect-1 _ (λ k. releaseBytes (quietRelease k (a .handle .0) (a .tick .0))) (lent (a .block .now) [] [] [] (a .answer .now)) (and-yes _ _ (eq-eqb _ 16384 (c .before .if1 .left)) ∙ ne-eqb _ 12 (c .if2 .taken))
 
 block-ok-requires : tie.Need-block-ok-requires
 block-ok-requires c κs = search needs
@@ -32,7 +32,7 @@ returns-3 c =
     let o = c .before in
     let q = o .before in
     let a = q .before .before .before .before .args in
-    inspect-2 _ (λ k. releaseBytes (quietRelease k (a .handle) (a .tick))) (lent (a .block .now) [] [] [] (a .answer .now)) (true-and _ _ (eq-eqb _ 16384 (q .before .if1 .left)) (eq-eqb _ 12 (q .if2 .left))) _ refl _ (o .block-ok .ensures) (not-true _ (c .if3 .taken))
+    inspect-2 _ (λ k. releaseBytes (quietRelease k (a .handle .0) (a .tick .0))) (lent (a .block .now) [] [] [] (a .answer .now)) (true-and _ _ (eq-eqb _ 16384 (q .before .if1 .left)) (eq-eqb _ 12 (q .if2 .left))) _ refl _ (o .block-ok .ensures) (not-true _ (c .if3 .taken))
 
 out-of-handles-requires : tie.Need-out-of-handles-requires
 out-of-handles-requires c κs = search needs
@@ -45,7 +45,7 @@ returns-4 c =
     let o = p .before in
     let q = o .before in
     let a = q .before .before .before .before .args in
-    inspect-8 _ (λ k. releaseBytes (quietRelease k (a .handle) (a .tick))) (lent (a .block .now) [] [] [] (a .answer .now)) (true-and _ _ (eq-eqb _ 16384 (q .before .if1 .left)) (eq-eqb _ 12 (q .if2 .left))) _ refl _ (o .block-ok .ensures) (not-false _ (p .if3 .left)) _ (h .out-of-handles .ensures) (c .if4 .taken)
+    inspect-8 _ (λ k. releaseBytes (quietRelease k (a .handle .0) (a .tick .0))) (lent (a .block .now) [] [] [] (a .answer .now)) (true-and _ _ (eq-eqb _ 16384 (q .before .if1 .left)) (eq-eqb _ 12 (q .if2 .left))) _ refl _ (o .block-ok .ensures) (not-false _ (p .if3 .left)) _ (h .out-of-handles .ensures) (c .if4 .taken)
 
 quiet-release-requires : tie.Need-quiet-release-requires
 quiet-release-requires c κs = search needs
@@ -68,7 +68,7 @@ returns-5 c =
     let q = o .before in
     let a = q .before .before .before .before .args in
     rw (t .put-release .ensures, n .quiet-release .ensures)
-    (inspect-0 _ (λ k. releaseBytes (quietRelease k (a .handle) (a .tick))) (lent (a .block .now) [] [] [] (a .answer .now)) (true-and _ _ (eq-eqb _ 16384 (q .before .if1 .left)) (eq-eqb _ 12 (q .if2 .left))) _ refl _ (o .block-ok .ensures) (not-false _ (p .if3 .left)) _ (h .out-of-handles .ensures) (i .if4 .left))
+    (inspect-0 _ (λ k. releaseBytes (quietRelease k (a .handle .0) (a .tick .0))) (lent (a .block .now) [] [] [] (a .answer .now)) (true-and _ _ (eq-eqb _ 16384 (q .before .if1 .left)) (eq-eqb _ 12 (q .if2 .left))) _ refl _ (o .block-ok .ensures) (not-false _ (p .if3 .left)) _ (h .out-of-handles .ensures) (i .if4 .left))
 
 pub operate-spec : {M : Type 1} → statement M
 operate-spec =

@@ -20,25 +20,25 @@ returns : tie.Need-returns
 unfolding operation.schedule
 returns c = let a = c .before .before .before .before .before .args in
     let l = lent (a .block .now) (a .bank .now) (a .processor .now) [] (a .answer .now) in
-    change-1 _ (λ k. 0) (λ k. schedule k (a .tick) .kernel) (λ k. back 0 (passWritten l (schedule k (a .tick)))) l (and-no _ _ (ne-eqb _ 16384 (c .if1 .taken)))
+    change-1 _ (λ k. 0) (λ k. schedule k (a .tick .0) .kernel) (λ k. back 0 (passWritten l (schedule k (a .tick .0)))) l (and-no _ _ (ne-eqb _ 16384 (c .if1 .taken)))
 
 returns-2 : tie.Need-returns-2
 unfolding operation.schedule
 returns-2 c = let a = c .before .before .before .before .before .before .args in
     let l = lent (a .block .now) (a .bank .now) (a .processor .now) [] (a .answer .now) in
-    change-1 _ (λ k. 0) (λ k. schedule k (a .tick) .kernel) (λ k. back 0 (passWritten l (schedule k (a .tick)))) l (and-yes _ _ (eq-eqb _ 16384 (c .before .if1 .left)) ∙ and-no _ _ (ne-eqb _ 6656 (c .if2 .taken)))
+    change-1 _ (λ k. 0) (λ k. schedule k (a .tick .0) .kernel) (λ k. back 0 (passWritten l (schedule k (a .tick .0)))) l (and-yes _ _ (eq-eqb _ 16384 (c .before .if1 .left)) ∙ and-no _ _ (ne-eqb _ 6656 (c .if2 .taken)))
 
 returns-3 : tie.Need-returns-3
 unfolding operation.schedule
 returns-3 c = let a = c .before .before .before .before .before .before .before .args in
     let l = lent (a .block .now) (a .bank .now) (a .processor .now) [] (a .answer .now) in
-    change-1 _ (λ k. 0) (λ k. schedule k (a .tick) .kernel) (λ k. back 0 (passWritten l (schedule k (a .tick)))) l (and-yes _ _ (eq-eqb _ 16384 (c .before .before .if1 .left)) ∙ (and-yes _ _ (eq-eqb _ 6656 (c .before .if2 .left)) ∙ and-no _ _ (ne-eqb _ 208 (c .if3 .taken))))
+    change-1 _ (λ k. 0) (λ k. schedule k (a .tick .0) .kernel) (λ k. back 0 (passWritten l (schedule k (a .tick .0)))) l (and-yes _ _ (eq-eqb _ 16384 (c .before .before .if1 .left)) ∙ (and-yes _ _ (eq-eqb _ 6656 (c .before .if2 .left)) ∙ and-no _ _ (ne-eqb _ 208 (c .if3 .taken))))
 
 returns-4 : tie.Need-returns-4
 unfolding operation.schedule
 returns-4 c = let a = c .before .before .before .before .before .before .before .before .args in
     let l = lent (a .block .now) (a .bank .now) (a .processor .now) [] (a .answer .now) in
-    change-1 _ (λ k. 0) (λ k. schedule k (a .tick) .kernel) (λ k. back 0 (passWritten l (schedule k (a .tick)))) l (and-yes _ _ (eq-eqb _ 16384 (c .before .before .before .if1 .left)) ∙ (and-yes _ _ (eq-eqb _ 6656 (c .before .before .if2 .left)) ∙ (and-yes _ _ (eq-eqb _ 208 (c .before .if3 .left)) ∙ ne-eqb _ 4 (c .if4 .taken))))
+    change-1 _ (λ k. 0) (λ k. schedule k (a .tick .0) .kernel) (λ k. back 0 (passWritten l (schedule k (a .tick .0)))) l (and-yes _ _ (eq-eqb _ 16384 (c .before .before .before .if1 .left)) ∙ (and-yes _ _ (eq-eqb _ 6656 (c .before .before .if2 .left)) ∙ (and-yes _ _ (eq-eqb _ 208 (c .before .if3 .left)) ∙ ne-eqb _ 4 (c .if4 .taken))))
 
 block-ok-requires : tie.Need-block-ok-requires
 block-ok-requires c κs = search needs
@@ -50,7 +50,7 @@ returns-5 : tie.Need-returns-5
 unfolding operation.schedule
 returns-5 c = let a = c .before .before .before .before .before .before .before .before .before .before .before .args in
     let l = lent (a .block .now) (a .bank .now) (a .processor .now) [] (a .answer .now) in
-    change-2 _ (λ k. 0) (λ k. schedule k (a .tick) .kernel) (λ k. back 0 (passWritten l (schedule k (a .tick)))) l
+    change-2 _ (λ k. 0) (λ k. schedule k (a .tick .0) .kernel) (λ k. back 0 (passWritten l (schedule k (a .tick .0)))) l
     (true-and _ _ (eq-eqb _ 16384 (c .before .before .before .before .before .before .if1 .left)) (true-and _ _ (eq-eqb _ 6656 (c .before .before .before .before .before .if2 .left)) (true-and _ _ (eq-eqb _ 208 (c .before .before .before .before .if3 .left)) (eq-eqb _ 4 (c .before .before .before .if4 .left))))) (decBlock (a .block .now)) refl _ (c .before .block-ok .ensures) (not-true _ (c .if5 .taken))
 
 out-of-handles-requires : tie.Need-out-of-handles-requires
@@ -64,8 +64,8 @@ unfolding operation.schedule
 returns-6 c = let a = c .before .before .before .before .before .before .before .before .before .before .before .before .before .before .args in
     let l = lent (a .block .now) (a .bank .now) (a .processor .now) [] (a .answer .now) in
     let b = a .block .now in
-    change-found _ (λ k. 0) (λ k. schedule k (a .tick) .kernel) (λ k. back 0 (passWritten l (schedule k (a .tick)))) l
-    (true-and _ _ (eq-eqb _ 16384 (c .before .before .before .before .before .before .before .before .before .if1 .left)) (true-and _ _ (eq-eqb _ 6656 (c .before .before .before .before .before .before .before .before .if2 .left)) (true-and _ _ (eq-eqb _ 208 (c .before .before .before .before .before .before .before .if3 .left)) (eq-eqb _ 4 (c .before .before .before .before .before .before .if4 .left))))) (decBlock b) refl _ (c .before .before .before .before .block-ok .ensures) (not-false _ (c .before .before .before .if5 .left)) 0 refl refl 8 (handles-found b (a .tick) (sym (c .before .out-of-handles .ensures) ∙ c .if6 .taken)) (λ e. omega (arith, e))
+    change-found _ (λ k. 0) (λ k. schedule k (a .tick .0) .kernel) (λ k. back 0 (passWritten l (schedule k (a .tick .0)))) l
+    (true-and _ _ (eq-eqb _ 16384 (c .before .before .before .before .before .before .before .before .before .if1 .left)) (true-and _ _ (eq-eqb _ 6656 (c .before .before .before .before .before .before .before .before .if2 .left)) (true-and _ _ (eq-eqb _ 208 (c .before .before .before .before .before .before .before .if3 .left)) (eq-eqb _ 4 (c .before .before .before .before .before .before .if4 .left))))) (decBlock b) refl _ (c .before .before .before .before .block-ok .ensures) (not-false _ (c .before .before .before .if5 .left)) 0 refl refl 8 (handles-found b (a .tick .0) (sym (c .before .out-of-handles .ensures) ∙ c .if6 .taken)) (λ e. omega (arith, e))
 
 try-waits-requires : tie.Need-try-waits-requires
 try-waits-requires c κs = (c .before .before .before .before .before .before .before .before .before .before .if1 .left, sym (c .before .before .before .before .before .block-ok .ensures) ∙ not-false _ (c .before .before .before .before .if5 .left))
@@ -79,8 +79,8 @@ returns-7 c = let a = c .before .before .before .before .before .before .before 
     let l = lent (a .block .now) (a .bank .now) (a .processor .now) [] (a .answer .now) in
     let b = a .block .now in
     rw (c .before .before .before .try-waits .ensures .1 .0 (c .if7 .taken))
-    (change-found _ (λ k. 0) (λ k. schedule k (a .tick) .kernel) (λ k. back 0 (passWritten l (schedule k (a .tick)))) l
-    (true-and _ _ (eq-eqb _ 16384 (c .before .before .before .before .before .before .before .before .before .before .before .before .before .before .if1 .left)) (true-and _ _ (eq-eqb _ 6656 (c .before .before .before .before .before .before .before .before .before .before .before .before .before .if2 .left)) (true-and _ _ (eq-eqb _ 208 (c .before .before .before .before .before .before .before .before .before .before .before .before .if3 .left)) (eq-eqb _ 4 (c .before .before .before .before .before .before .before .before .before .before .before .if4 .left))))) (decBlock b) refl _ (c .before .before .before .before .before .before .before .before .before .block-ok .ensures) (not-false _ (c .before .before .before .before .before .before .before .before .if5 .left)) 0 refl refl 8 (over-found b (a .tick) (sym (c .before .before .before .try-waits .ensures .0) ∙ c .if7 .taken)) (λ e. omega (arith, e)))
+    (change-found _ (λ k. 0) (λ k. schedule k (a .tick .0) .kernel) (λ k. back 0 (passWritten l (schedule k (a .tick .0)))) l
+    (true-and _ _ (eq-eqb _ 16384 (c .before .before .before .before .before .before .before .before .before .before .before .before .before .before .if1 .left)) (true-and _ _ (eq-eqb _ 6656 (c .before .before .before .before .before .before .before .before .before .before .before .before .before .if2 .left)) (true-and _ _ (eq-eqb _ 208 (c .before .before .before .before .before .before .before .before .before .before .before .before .if3 .left)) (eq-eqb _ 4 (c .before .before .before .before .before .before .before .before .before .before .before .if4 .left))))) (decBlock b) refl _ (c .before .before .before .before .before .before .before .before .before .block-ok .ensures) (not-false _ (c .before .before .before .before .before .before .before .before .if5 .left)) 0 refl refl 8 (over-found b (a .tick .0) (sym (c .before .before .before .try-waits .ensures .0) ∙ c .if7 .taken)) (λ e. omega (arith, e)))
 
 get-head-requires : tie.Need-get-head-requires
 get-head-requires c κs = search needs
@@ -131,13 +131,13 @@ returns-8 c = let a = c .before .before .before .before .before .before .before 
     let r = c .before .before .before .before .before .before .before .before .before .before .before .before .before .before .before .before .before .before .before .before .before .before .get-threads in
     let t = c .before .before .before .before .before .before .before .before .before .before .before .before .before .before .before .before .before .before .before .before .choose in
     let p = c .before .before .before .before .before .before .put-passed .ensures in
-    let q = pass-is b e (a .tick) d s (h .result) (h .ensures) (m .result) (m .ensures) (r .result) (r .ensures) (t .result) (t .ensures) in
-    let written : c .before .before .before .before .before .before .before .before .before .before .before .before .put-head .last .0 ≡ encBlock (passed (decBlock b) (tried (decBlock b) (a .tick) .objects) (t .result) .kernel) =
-    rw (c .before .before .before .before .before .before .before .before .before .before .before .before .put-head .ensures, c .before .before .before .before .before .before .before .before .before .before .before .before .before .before .before .before .before .put-threads .ensures .0, c .before .before .before .before .before .before .before .before .before .before .before .before .before .head-after .ensures) (written-is b e (a .tick) d s (h .result) (h .ensures) (m .result) (m .ensures) (r .result) (r .ensures) (t .result) (t .ensures) (c .before .before .before .before .before .before .before .before .before .before .before .before .before .before .before .before .before .put-threads .ensures .1)) in
+    let q = pass-is b e (a .tick .0) d s (h .result) (h .ensures) (m .result) (m .ensures) (r .result) (r .ensures) (t .result) (t .ensures) in
+    let written : c .before .before .before .before .before .before .before .before .before .before .before .before .put-head .last .0 ≡ encBlock (passed (decBlock b) (tried (decBlock b) (a .tick .0) .objects) (t .result) .kernel) =
+    rw (c .before .before .before .before .before .before .before .before .before .before .before .before .put-head .ensures, c .before .before .before .before .before .before .before .before .before .before .before .before .before .before .before .before .before .put-threads .ensures .0, c .before .before .before .before .before .before .before .before .before .before .before .before .before .head-after .ensures) (written-is b e (a .tick .0) d s (h .result) (h .ensures) (m .result) (m .ensures) (r .result) (r .ensures) (t .result) (t .ensures) (c .before .before .before .before .before .before .before .before .before .before .before .before .before .before .before .before .before .put-threads .ensures .1)) in
     rw (p .1 .1, p .1 .0, p .0, written)
     (ap (λ (z : Passed). back 0 (passWritten l z)) q
-    ∙ change-0 _ (λ k. 0) (λ k. schedule k (a .tick) .kernel) (λ k. back 0 (passWritten l (schedule k (a .tick)))) l
-    (true-and _ _ (eq-eqb _ 16384 (c .before .before .before .before .before .before .before .before .before .before .before .before .before .before .before .before .before .before .before .before .before .before .before .before .before .before .before .before .before .before .before .before .before .before .before .before .before .before .before .before .before .before .before .if1 .left)) (true-and _ _ (eq-eqb _ 6656 (c .before .before .before .before .before .before .before .before .before .before .before .before .before .before .before .before .before .before .before .before .before .before .before .before .before .before .before .before .before .before .before .before .before .before .before .before .before .before .before .before .before .before .if2 .left)) (true-and _ _ (eq-eqb _ 208 (c .before .before .before .before .before .before .before .before .before .before .before .before .before .before .before .before .before .before .before .before .before .before .before .before .before .before .before .before .before .before .before .before .before .before .before .before .before .before .before .before .before .if3 .left)) (eq-eqb _ 4 (c .before .before .before .before .before .before .before .before .before .before .before .before .before .before .before .before .before .before .before .before .before .before .before .before .before .before .before .before .before .before .before .before .before .before .before .before .before .before .before .before .if4 .left))))) (decBlock b) refl _ (c .before .before .before .before .before .before .before .before .before .before .before .before .before .before .before .before .before .before .before .before .before .before .before .before .before .before .before .before .before .before .before .before .before .before .before .before .before .before .block-ok .ensures) (not-false _ (c .before .before .before .before .before .before .before .before .before .before .before .before .before .before .before .before .before .before .before .before .before .before .before .before .before .before .before .before .before .before .before .before .before .before .before .before .before .if5 .left)) 0 refl refl 0 (none-found b (a .tick) (sym (c .before .before .before .before .before .before .before .before .before .before .before .before .before .before .before .before .before .before .before .before .before .before .before .before .before .before .before .before .before .before .before .before .try-waits .ensures .0) ∙ c .before .before .before .before .before .before .before .before .before .before .before .before .before .before .before .before .before .before .before .before .before .before .before .before .before .before .before .before .before .if7 .left) (sym (c .before .before .before .before .before .before .before .before .before .before .before .before .before .before .before .before .before .before .before .before .before .before .before .before .before .before .before .before .before .before .before .before .before .before .before .out-of-handles .ensures) ∙ c .before .before .before .before .before .before .before .before .before .before .before .before .before .before .before .before .before .before .before .before .before .before .before .before .before .before .before .before .before .before .before .before .before .before .if6 .left)) refl)
+    ∙ change-0 _ (λ k. 0) (λ k. schedule k (a .tick .0) .kernel) (λ k. back 0 (passWritten l (schedule k (a .tick .0)))) l
+    (true-and _ _ (eq-eqb _ 16384 (c .before .before .before .before .before .before .before .before .before .before .before .before .before .before .before .before .before .before .before .before .before .before .before .before .before .before .before .before .before .before .before .before .before .before .before .before .before .before .before .before .before .before .before .if1 .left)) (true-and _ _ (eq-eqb _ 6656 (c .before .before .before .before .before .before .before .before .before .before .before .before .before .before .before .before .before .before .before .before .before .before .before .before .before .before .before .before .before .before .before .before .before .before .before .before .before .before .before .before .before .before .if2 .left)) (true-and _ _ (eq-eqb _ 208 (c .before .before .before .before .before .before .before .before .before .before .before .before .before .before .before .before .before .before .before .before .before .before .before .before .before .before .before .before .before .before .before .before .before .before .before .before .before .before .before .before .before .if3 .left)) (eq-eqb _ 4 (c .before .before .before .before .before .before .before .before .before .before .before .before .before .before .before .before .before .before .before .before .before .before .before .before .before .before .before .before .before .before .before .before .before .before .before .before .before .before .before .before .if4 .left))))) (decBlock b) refl _ (c .before .before .before .before .before .before .before .before .before .before .before .before .before .before .before .before .before .before .before .before .before .before .before .before .before .before .before .before .before .before .before .before .before .before .before .before .before .before .block-ok .ensures) (not-false _ (c .before .before .before .before .before .before .before .before .before .before .before .before .before .before .before .before .before .before .before .before .before .before .before .before .before .before .before .before .before .before .before .before .before .before .before .before .before .if5 .left)) 0 refl refl 0 (none-found b (a .tick .0) (sym (c .before .before .before .before .before .before .before .before .before .before .before .before .before .before .before .before .before .before .before .before .before .before .before .before .before .before .before .before .before .before .before .before .try-waits .ensures .0) ∙ c .before .before .before .before .before .before .before .before .before .before .before .before .before .before .before .before .before .before .before .before .before .before .before .before .before .before .before .before .before .if7 .left) (sym (c .before .before .before .before .before .before .before .before .before .before .before .before .before .before .before .before .before .before .before .before .before .before .before .before .before .before .before .before .before .before .before .before .before .before .before .out-of-handles .ensures) ∙ c .before .before .before .before .before .before .before .before .before .before .before .before .before .before .before .before .before .before .before .before .before .before .before .before .before .before .before .before .before .before .before .before .before .before .if6 .left)) refl)
 
 pub operate-spec : {M : Type 1} → statement M
 operate-spec =

@@ -7,7 +7,7 @@ use Rattle.tally.proofs.bump_at.Tie as tie
 
 returns : tie.Need-returns
 unfolding bump
-returns c = rw (le-ltb (c .before .args .o) 129 (c .if1 .taken))
+returns c = rw (le-ltb (c .before .args .x) 129 (c .if1 .taken))
 
 mul-v : tie.Need-mul-v
 mul-v c = search needs
@@ -17,7 +17,7 @@ element-copy-out-v c = search needs
 
 returns-2 : tie.Need-returns-2
 unfolding bump
-returns-2 c = rw (lt-ltb (c .before .before .before .args .o) 129 (omega arith), le-ltb _ 100000 (c .if2 .taken))
+returns-2 c = rw (lt-ltb (c .before .before .before .args .x) 129 (omega arith), le-ltb _ 100000 (c .if2 .taken))
 
 add-c : tie.Need-add-c
 add-c c = search needs
@@ -30,7 +30,7 @@ element-write-c c = search needs
 
 returns-3 : tie.Need-returns-3
 unfolding bump
-returns-3 c = rw (lt-ltb (c .before .before .before .args .o) 129 (omega arith), lt-ltb _ 100000 (c .if2 .left))
+returns-3 c = rw (lt-ltb (c .before .before .before .args .x) 129 (omega arith), lt-ltb _ 100000 (c .if2 .left))
 
 pub bump-at-spec : {M : Type 1} → statement M
 bump-at-spec =

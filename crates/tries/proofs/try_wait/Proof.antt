@@ -26,14 +26,14 @@ same-length c = search needs
 
 returns : tie.Need-returns
 returns c = let b = c .before .before .before .before .before .before .before .before .before .args .block .now in
-    let f = c .before .before .fate-of .ensures ∙ fate-is b (c .before .before .before .before .before .before .before .before .before .pre .1 .0) (c .before .before .before .before .before .before .before .before .before .args .tick) (c .before .before .before .before .before .before .before .before .before .args .i) (c .before .before .before .before .before .before .thread-at .result) (c .before .before .before .before .before .before .thread-at .ensures) (c .before .before .before .satisfied-at .result) (c .before .before .before .satisfied-at .ensures) in
-    let w = stays b (c .before .before .before .before .before .before .before .before .before .pre .1 .0) (c .before .before .before .before .before .before .before .before .before .args .tick) (c .before .before .before .before .before .before .before .before .before .args .i) (ap isOver (sym f) ∙ sym (c .before .is-over .ensures) ∙ not-true _ (c .if1 .taken)) in
+    let f = c .before .before .fate-of .ensures ∙ fate-is b (c .before .before .before .before .before .before .before .before .before .pre .1 .0) (c .before .before .before .before .before .before .before .before .before .args .tick .0) (c .before .before .before .before .before .before .before .before .before .args .i) (c .before .before .before .before .before .before .thread-at .result) (c .before .before .before .before .before .before .thread-at .ensures) (c .before .before .before .satisfied-at .result) (c .before .before .before .satisfied-at .ensures) in
+    let w = stays b (c .before .before .before .before .before .before .before .before .before .pre .1 .0) (c .before .before .before .before .before .before .before .before .before .args .tick .0) (c .before .before .before .before .before .before .before .before .before .args .i) (ap isOver (sym f) ∙ sym (c .before .is-over .ensures) ∙ not-true _ (c .if1 .taken)) in
     (w .0, ((λ _. w .1), (λ _. c .before .before .before .before .before .before .before .before .before .pre .1 .0)))
 
 take-for-requires : tie.Need-take-for-requires
 take-for-requires c κs = let b = c .before .before .before .before .before .before .before .before .before .before .args .block .now in
-    let f = c .before .before .before .fate-of .ensures ∙ fate-is b (c .before .before .before .before .before .before .before .before .before .before .pre .1 .0) (c .before .before .before .before .before .before .before .before .before .before .args .tick) (c .before .before .before .before .before .before .before .before .before .before .args .i) (c .before .before .before .before .before .before .before .thread-at .result) (c .before .before .before .before .before .before .before .thread-at .ensures) (c .before .before .before .before .satisfied-at .result) (c .before .before .before .before .satisfied-at .ensures) in
-    (c .before .before .before .before .before .before .before .before .before .before .pre .0, (c .before .before .before .before .before .before .before .before .before .before .pre .1 .0, lives b (c .before .before .before .before .before .before .before .before .before .before .pre .1 .0) (c .before .before .before .before .before .before .before .before .before .before .args .tick) (c .before .before .before .before .before .before .before .before .before .before .args .i) (ap isOver (sym f) ∙ sym (c .before .before .is-over .ensures) ∙ not-false _ (c .before .if1 .left))))
+    let f = c .before .before .before .fate-of .ensures ∙ fate-is b (c .before .before .before .before .before .before .before .before .before .before .pre .1 .0) (c .before .before .before .before .before .before .before .before .before .before .args .tick .0) (c .before .before .before .before .before .before .before .before .before .before .args .i) (c .before .before .before .before .before .before .before .thread-at .result) (c .before .before .before .before .before .before .before .thread-at .ensures) (c .before .before .before .before .satisfied-at .result) (c .before .before .before .before .satisfied-at .ensures) in
+    (c .before .before .before .before .before .before .before .before .before .before .pre .0, (c .before .before .before .before .before .before .before .before .before .before .pre .1 .0, lives b (c .before .before .before .before .before .before .before .before .before .before .pre .1 .0) (c .before .before .before .before .before .before .before .before .before .before .args .tick .0) (c .before .before .before .before .before .before .before .before .before .before .args .i) (ap isOver (sym f) ∙ sym (c .before .before .is-over .ensures) ∙ not-false _ (c .before .if1 .left))))
 
 same-length-2 : tie.Need-same-length-2
 same-length-2 c = search needs
@@ -41,8 +41,8 @@ same-length-2 c = search needs
 returns-2 : tie.Need-returns-2
 returns-2 c = let b = c .before .before .before .before .before .before .before .before .before .before .before .before .before .before .args .block .now in
     let k = decBlock b in
-    let f = c .before .before .before .before .before .before .before .fate-of .ensures ∙ fate-is b (c .before .before .before .before .before .before .before .before .before .before .before .before .before .before .pre .1 .0) (c .before .before .before .before .before .before .before .before .before .before .before .before .before .before .args .tick) (c .before .before .before .before .before .before .before .before .before .before .before .before .before .before .args .i) (c .before .before .before .before .before .before .before .before .before .before .before .thread-at .result) (c .before .before .before .before .before .before .before .before .before .before .before .thread-at .ensures) (c .before .before .before .before .before .before .before .before .satisfied-at .result) (c .before .before .before .before .before .before .before .before .satisfied-at .ensures) in
-    let e = (λ j. took (f j) (k .objects) (c .before .before .before .before .before .before .before .before .before .before .before .thread-at .ensures j) (c .before .before .before .before .before .before .before .before .before .before .before .before .before .before .args .i) .overflow) ∙ over-is b (c .before .before .before .before .before .before .before .before .before .before .before .before .before .before .pre .1 .0) (c .before .before .before .before .before .before .before .before .before .before .before .before .before .before .args .tick) (c .before .before .before .before .before .before .before .before .before .before .before .before .before .before .args .i) in
+    let f = c .before .before .before .before .before .before .before .fate-of .ensures ∙ fate-is b (c .before .before .before .before .before .before .before .before .before .before .before .before .before .before .pre .1 .0) (c .before .before .before .before .before .before .before .before .before .before .before .before .before .before .args .tick .0) (c .before .before .before .before .before .before .before .before .before .before .before .before .before .before .args .i) (c .before .before .before .before .before .before .before .before .before .before .before .thread-at .result) (c .before .before .before .before .before .before .before .before .before .before .before .thread-at .ensures) (c .before .before .before .before .before .before .before .before .satisfied-at .result) (c .before .before .before .before .before .before .before .before .satisfied-at .ensures) in
+    let e = (λ j. took (f j) (k .objects) (c .before .before .before .before .before .before .before .before .before .before .before .thread-at .ensures j) (c .before .before .before .before .before .before .before .before .before .before .before .before .before .before .args .i) .overflow) ∙ over-is b (c .before .before .before .before .before .before .before .before .before .before .before .before .before .before .pre .1 .0) (c .before .before .before .before .before .before .before .before .before .before .before .before .before .before .args .tick .0) (c .before .before .before .before .before .before .before .before .before .before .before .before .before .before .args .i) in
     (sym (c .if2 .taken) ∙ c .before .before .before .take-for .ensures .0 ∙ e, ((λ q. absurd (true≢false q)), (λ q. absurd (true≢false q))))
 
 release-list-requires : tie.Need-release-list-requires
@@ -60,10 +60,10 @@ same-length-3 c = c .before .before .put-thread .kept .0 ∙ c .before .before .
 returns-3 : tie.Need-returns-3
 returns-3 c = let b = c .before .before .before .before .before .before .before .before .before .before .before .before .before .before .before .before .before .before .before .before .before .before .before .args .block .now in
     let k = decBlock b in
-    let f = c .before .before .before .before .before .before .before .before .before .before .before .before .before .before .before .before .fate-of .ensures ∙ fate-is b (c .before .before .before .before .before .before .before .before .before .before .before .before .before .before .before .before .before .before .before .before .before .before .before .pre .1 .0) (c .before .before .before .before .before .before .before .before .before .before .before .before .before .before .before .before .before .before .before .before .before .before .before .args .tick) (c .before .before .before .before .before .before .before .before .before .before .before .before .before .before .before .before .before .before .before .before .before .before .before .args .i) (c .before .before .before .before .before .before .before .before .before .before .before .before .before .before .before .before .before .before .before .before .thread-at .result) (c .before .before .before .before .before .before .before .before .before .before .before .before .before .before .before .before .before .before .before .before .thread-at .ensures) (c .before .before .before .before .before .before .before .before .before .before .before .before .before .before .before .before .before .satisfied-at .result) (c .before .before .before .before .before .before .before .before .before .before .before .before .before .before .before .before .before .satisfied-at .ensures) in
-    let e = (λ j. took (f j) (k .objects) (c .before .before .before .before .before .before .before .before .before .before .before .before .before .before .before .before .before .before .before .before .thread-at .ensures j) (c .before .before .before .before .before .before .before .before .before .before .before .before .before .before .before .before .before .before .before .before .before .before .before .args .i) .overflow) ∙ over-is b (c .before .before .before .before .before .before .before .before .before .before .before .before .before .before .before .before .before .before .before .before .before .before .before .pre .1 .0) (c .before .before .before .before .before .before .before .before .before .before .before .before .before .before .before .before .before .before .before .before .before .before .before .args .tick) (c .before .before .before .before .before .before .before .before .before .before .before .before .before .before .before .before .before .before .before .before .before .before .before .args .i) in
+    let f = c .before .before .before .before .before .before .before .before .before .before .before .before .before .before .before .before .fate-of .ensures ∙ fate-is b (c .before .before .before .before .before .before .before .before .before .before .before .before .before .before .before .before .before .before .before .before .before .before .before .pre .1 .0) (c .before .before .before .before .before .before .before .before .before .before .before .before .before .before .before .before .before .before .before .before .before .before .before .args .tick .0) (c .before .before .before .before .before .before .before .before .before .before .before .before .before .before .before .before .before .before .before .before .before .before .before .args .i) (c .before .before .before .before .before .before .before .before .before .before .before .before .before .before .before .before .before .before .before .before .thread-at .result) (c .before .before .before .before .before .before .before .before .before .before .before .before .before .before .before .before .before .before .before .before .thread-at .ensures) (c .before .before .before .before .before .before .before .before .before .before .before .before .before .before .before .before .before .satisfied-at .result) (c .before .before .before .before .before .before .before .before .before .before .before .before .before .before .before .before .before .satisfied-at .ensures) in
+    let e = (λ j. took (f j) (k .objects) (c .before .before .before .before .before .before .before .before .before .before .before .before .before .before .before .before .before .before .before .before .thread-at .ensures j) (c .before .before .before .before .before .before .before .before .before .before .before .before .before .before .before .before .before .before .before .before .before .before .before .args .i) .overflow) ∙ over-is b (c .before .before .before .before .before .before .before .before .before .before .before .before .before .before .before .before .before .before .before .before .before .before .before .pre .1 .0) (c .before .before .before .before .before .before .before .before .before .before .before .before .before .before .before .before .before .before .before .before .before .before .before .args .tick .0) (c .before .before .before .before .before .before .before .before .before .before .before .before .before .before .before .before .before .before .before .before .before .before .before .args .i) in
     let fine = sym e ∙ sym (c .before .before .before .before .before .before .before .before .before .before .before .before .take-for .ensures .0) ∙ c .before .before .before .before .before .before .before .before .before .if2 .left in
-    let w = turned b (c .before .before .before .before .before .before .before .before .before .before .before .before .before .before .before .before .before .before .before .before .before .before .before .pre .1 .0) (c .before .before .before .before .before .before .before .before .before .before .before .before .before .before .before .before .before .before .before .before .before .before .before .args .tick) (c .before .before .before .before .before .before .before .before .before .before .before .before .before .before .before .before .before .before .before .before .before .before .before .args .i) (c .before .before .before .before .before .before .before .before .before .before .before .before .before .before .before .before .before .before .before .before .thread-at .result) (c .before .before .before .before .before .before .before .before .before .before .before .before .before .before .before .before .before .before .before .before .thread-at .ensures) (c .before .before .before .before .before .before .before .before .before .before .before .before .before .before .before .before .fate-of .result) f (ap isOver (sym f) ∙ sym (c .before .before .before .before .before .before .before .before .before .before .before .before .before .before .before .is-over .ensures) ∙ not-false _ (c .before .before .before .before .before .before .before .before .before .before .before .before .before .before .if1 .left)) fine (c .before .before .before .before .before .before .before .before .before .before .before .before .take-for .last .0) (c .before .before .before .before .before .before .before .release-list .last .0) (c .before .before .before .before .before .before .before .before .before .before .before .before .take-for .ensures .1 .0 (c .before .before .before .before .before .before .before .before .before .if2 .left)) (c .before .before .before .before .before .before .before .release-list .ensures .0) (c .before .before .before .before .before .before .before .release-list .ensures .1) (c .before .before .before .tried .result) (c .before .before .before .tried .ensures) in
+    let w = turned b (c .before .before .before .before .before .before .before .before .before .before .before .before .before .before .before .before .before .before .before .before .before .before .before .pre .1 .0) (c .before .before .before .before .before .before .before .before .before .before .before .before .before .before .before .before .before .before .before .before .before .before .before .args .tick .0) (c .before .before .before .before .before .before .before .before .before .before .before .before .before .before .before .before .before .before .before .before .before .before .before .args .i) (c .before .before .before .before .before .before .before .before .before .before .before .before .before .before .before .before .before .before .before .before .thread-at .result) (c .before .before .before .before .before .before .before .before .before .before .before .before .before .before .before .before .before .before .before .before .thread-at .ensures) (c .before .before .before .before .before .before .before .before .before .before .before .before .before .before .before .before .fate-of .result) f (ap isOver (sym f) ∙ sym (c .before .before .before .before .before .before .before .before .before .before .before .before .before .before .before .is-over .ensures) ∙ not-false _ (c .before .before .before .before .before .before .before .before .before .before .before .before .before .before .if1 .left)) fine (c .before .before .before .before .before .before .before .before .before .before .before .before .take-for .last .0) (c .before .before .before .before .before .before .before .release-list .last .0) (c .before .before .before .before .before .before .before .before .before .before .before .before .take-for .ensures .1 .0 (c .before .before .before .before .before .before .before .before .before .if2 .left)) (c .before .before .before .before .before .before .before .release-list .ensures .0) (c .before .before .before .before .before .before .before .release-list .ensures .1) (c .before .before .before .tried .result) (c .before .before .before .tried .ensures) in
     rw (c .before .before .put-thread .ensures) (sym fine, ((λ _. w .0), (λ _. w .1)))
 
 pub try-wait-spec : {M : Type 1} → statement M

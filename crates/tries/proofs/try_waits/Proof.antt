@@ -11,7 +11,7 @@ use Rattle.tries.proofs.try_waits.Statement.{statement}
 use Rattle.tries.proofs.try_waits.Tie as tie
 
 abbrev Inv-loop : tie.InvT-loop
-Inv-loop block₀ tick i₀ block i = (i ≤ 32) × ((length block ≡ 16384) × Trying (decBlock block₀) tick i block)
+Inv-loop block₀ tick i₀ block i = (i ≤ 32) × ((length block ≡ 16384) × Trying (decBlock block₀) (tick .0) i block)
 
 abbrev μ-loop : tie.MeasureT-loop
 μ-loop block₀ tick i₀ block i = 32 - i
@@ -24,7 +24,7 @@ same-length c = search needs
 
 returns : tie.Need-returns Inv-loop μ-loop
 returns c = let b = c .before .before .before .before .before .before .args .block .now in
-    (sym (fires-over (decBlock b) (c .before .before .before .before .before .before .args .tick) (sym (c .before .before .before .fire .ensures .0) ∙ c .if1 .taken)), ((λ q. absurd (true≢false q)), (λ q. absurd (true≢false q))))
+    (sym (fires-over (decBlock b) (c .before .before .before .before .before .before .args .tick .0) (sym (c .before .before .before .fire .ensures .0) ∙ c .if1 .taken)), ((λ q. absurd (true≢false q)), (λ q. absurd (true≢false q))))
 
 loop-holds : tie.Need-loop-holds Inv-loop μ-loop
 loop-holds c = (search needs, (c .before .before .before .fire .kept .0 ∙ c .before .before .before .before .before .before .pre .0, record { sound = c .before .before .before .fire .ensures .1 .1 (c .if1 .left); goal = refl }))
@@ -39,7 +39,7 @@ returns-2 : tie.Need-returns-2 Inv-loop μ-loop
 returns-2 c = let b = c .before .before .before .before .before .before .before .before .before .before .before .before .before .args .block .now in
     let l = c .before .before .before .before .before .before .loop in
     let q = decBlock (c .before .before .before .before .before .before .before .before .before .before .fire .last .0) in
-    (sym (sym (tried-over (decBlock b) (c .before .before .before .before .before .before .before .before .before .before .before .before .before .args .tick) q (c .before .before .before .before .before .before .before .before .before .before .fire .ensures .1 .0 (c .before .before .before .before .before .before .before .if1 .left))) ∙ try-over q (c .before .before .before .before .before .before .before .before .before .before .before .before .before .args .tick) (l .i) (l .block) (omega (arith, c .before .before .before .before .before .loop-test)) (l .inv .1 .1) (sym (c .before .before .before .try-wait .ensures .0) ∙ c .if2 .taken)), ((λ z. absurd (true≢false z)), (λ z. absurd (true≢false z))))
+    (sym (sym (tried-over (decBlock b) (c .before .before .before .before .before .before .before .before .before .before .before .before .before .args .tick .0) q (c .before .before .before .before .before .before .before .before .before .before .fire .ensures .1 .0 (c .before .before .before .before .before .before .before .if1 .left))) ∙ try-over q (c .before .before .before .before .before .before .before .before .before .before .before .before .before .args .tick .0) (l .i) (l .block) (omega (arith, c .before .before .before .before .before .loop-test)) (l .inv .1 .1) (sym (c .before .before .before .try-wait .ensures .0) ∙ c .if2 .taken)), ((λ z. absurd (true≢false z)), (λ z. absurd (true≢false z))))
 
 add-i : tie.Need-add-i Inv-loop μ-loop
 add-i c = search needs
@@ -50,7 +50,7 @@ loop-less c = search needs
 loop-again : tie.Need-loop-again Inv-loop μ-loop
 loop-again c = let l = c .before .before .before .before .before .before .loop in
     let q = decBlock (c .before .before .before .before .before .before .before .before .before .before .fire .last .0) in
-    (search needs, (c .before .before .before .try-wait .kept .0 ∙ l .inv .1 .0, try-more q (c .before .before .before .before .before .before .before .before .before .before .before .before .before .args .tick) (l .i) (l .block) (c .before .before .before .try-wait .last .0) (omega (arith, c .before .before .before .before .before .loop-test)) (l .inv .1 .1) (c .before .before .before .try-wait .ensures .1 .0 (c .if2 .left)) (c .before .before .before .try-wait .ensures .1 .1 (c .if2 .left))))
+    (search needs, (c .before .before .before .try-wait .kept .0 ∙ l .inv .1 .0, try-more q (c .before .before .before .before .before .before .before .before .before .before .before .before .before .args .tick .0) (l .i) (l .block) (c .before .before .before .try-wait .last .0) (omega (arith, c .before .before .before .before .before .loop-test)) (l .inv .1 .1) (c .before .before .before .try-wait .ensures .1 .0 (c .if2 .left)) (c .before .before .before .try-wait .ensures .1 .1 (c .if2 .left))))
 
 clear-pulses-requires : tie.Need-clear-pulses-requires Inv-loop μ-loop
 clear-pulses-requires c κs = (c .before .before .loop .inv .1 .0, c .before .before .loop .inv .1 .1 .sound)
@@ -62,7 +62,7 @@ returns-3 : tie.Need-returns-3 Inv-loop μ-loop
 returns-3 c = let b = c .before .before .before .before .before .before .before .before .before .before .before .before .args .block .now in
     let l = c .before .before .before .before .before .loop in
     let q = decBlock (c .before .before .before .before .before .before .before .before .before .fire .last .0) in
-    let e = c .before .before .clear-pulses .ensures .0 ∙ tried-is (decBlock b) (c .before .before .before .before .before .before .before .before .before .before .before .before .args .tick) q (c .before .before .before .before .before .before .before .before .before .fire .ensures .1 .0 (c .before .before .before .before .before .before .if1 .left)) (decBlock (l .block)) (try-end q (c .before .before .before .before .before .before .before .before .before .before .before .before .args .tick) (l .i) (l .block) (omega (arith, c .before .before .before .before .loop-test)) (l .inv .1 .1)) in
+    let e = c .before .before .clear-pulses .ensures .0 ∙ tried-is (decBlock b) (c .before .before .before .before .before .before .before .before .before .before .before .before .args .tick .0) q (c .before .before .before .before .before .before .before .before .before .fire .ensures .1 .0 (c .before .before .before .before .before .before .if1 .left)) (decBlock (l .block)) (try-end q (c .before .before .before .before .before .before .before .before .before .before .before .before .args .tick .0) (l .i) (l .block) (omega (arith, c .before .before .before .before .loop-test)) (l .inv .1 .1)) in
     (none-over (c .before .before .clear-pulses .last .0) ∙ ap (λ (z : Kernel). z .objects .overflow) e, ((λ _. e), (λ _. c .before .before .clear-pulses .ensures .1)))
 
 pub try-waits-spec : {M : Type 1} → statement M

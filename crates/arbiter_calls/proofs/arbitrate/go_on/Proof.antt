@@ -8,8 +8,8 @@ use borrow.Author.Needs.{needs}
 use Rattle.arbiter_calls.proofs.arbitrate.go_on.Statement.{statement}
 use Rattle.arbiter_calls.proofs.arbitrate.go_on.Tie as tie
 
-open-requires : tie.Need-open-requires
-open-requires c κs = search needs
+resolve-requires : tie.Need-resolve-requires
+resolve-requires c κs = search needs
 
 refused-requires : tie.Need-refused-requires
 refused-requires c κs = search needs
@@ -20,7 +20,7 @@ same-length c = search needs
 returns : tie.Need-returns
 returns c = let a = c .before .before .before .before .before .before .before .before .args in
     let b = a .block .now in
-    refused-call b (a .h) _ (c .before .before .before .before .before .«open» .result) (c .before .before .before .before .before .«open» .ensures .0) (onHandle (decBlock b) (a .h) goesOn) (handle-finding (decBlock b) (a .h) goesOn (λ q o. refl)) (c .before .if1 .taken) _ (c .refused .ensures)
+    refused-call b (a .h .0) _ (c .before .before .before .before .before .resolve .result) (c .before .before .before .before .before .resolve .ensures .0) (onHandle (decBlock b) (a .h .0) goesOn) (handle-finding (decBlock b) (a .h .0) goesOn (λ q o. refl)) (c .before .if1 .taken) _ (c .refused .ensures)
 
 answers-requires : tie.Need-answers-requires
 answers-requires c κs = search needs
@@ -32,7 +32,7 @@ returns-2 : tie.Need-returns-2
 returns-2 c = let s = c .before .before .before .before .before .before .before .before .before .before .before in
     let a = s .args in
     let b = a .block .now in
-    not-known b (s .pre .1) (a .h) goesOn _ (c .before .before .before .before .before .before .before .before .«open» .result) (c .before .before .before .before .before .before .before .before .«open» .ensures .0) (c .before .before .before .before .if1 .left) (handle-finding (decBlock b) (a .h) goesOn (λ q o. refl)) (c .before .if2 .taken) _ (c .answers .ensures)
+    not-known b (s .pre .1) (a .h .0) goesOn _ (c .before .before .before .before .before .before .before .before .resolve .result) (c .before .before .before .before .before .before .before .before .resolve .ensures .0) (c .before .before .before .before .if1 .left) (handle-finding (decBlock b) (a .h .0) goesOn (λ q o. refl)) (c .before .if2 .taken) _ (c .answers .ensures)
 
 done-requires : tie.Need-done-requires
 done-requires c κs = search needs
@@ -44,13 +44,13 @@ returns-3 : tie.Need-returns-3
 returns-3 c = let s = c .before .before .before .before .before .before .before .before .before .before .before in
     let a = s .args in
     let b = a .block .now in
-    known b (s .pre .1) (a .h) goesOn _ (c .before .before .before .before .before .before .before .before .«open» .result) (c .before .before .before .before .before .before .before .before .«open» .ensures .0) (c .before .before .before .before .if1 .left) (handle-finding (decBlock b) (a .h) goesOn (λ q o. refl)) (c .before .if2 .left) _ (c .done .ensures) _ (holds _ (c .before .before .before .before .before .before .before .before .«open» .ensures .1))
+    known b (s .pre .1) (a .h .0) goesOn _ (c .before .before .before .before .before .before .before .before .resolve .result) (c .before .before .before .before .before .before .before .before .resolve .ensures .0) (c .before .before .before .before .if1 .left) (handle-finding (decBlock b) (a .h .0) goesOn (λ q o. refl)) (c .before .if2 .left) _ (c .done .ensures) _ (holds _ (c .before .before .before .before .before .before .before .before .resolve .ensures .1))
 
 pub go-on-spec : {M : Type 1} → statement M
 go-on-spec =
     tie.close
     (tie.spec
-    open-requires
+    resolve-requires
     refused-requires
     same-length
     returns

@@ -7,8 +7,8 @@ use borrow.Author.Needs.{needs}
 use Rattle.arbiter_calls.proofs.arbitrate.signal.Statement.{statement}
 use Rattle.arbiter_calls.proofs.arbitrate.signal.Tie as tie
 
-open-requires : tie.Need-open-requires
-open-requires c κs = search needs
+resolve-requires : tie.Need-resolve-requires
+resolve-requires c κs = search needs
 
 refused-requires : tie.Need-refused-requires
 refused-requires c κs = search needs
@@ -19,7 +19,7 @@ same-length c = search needs
 returns : tie.Need-returns
 returns c = let a = c .before .before .before .before .before .before .before .before .args in
     let b = a .block .now in
-    refused-call b (a .h) _ (c .before .before .before .before .before .«open» .result) (c .before .before .before .before .before .«open» .ensures .0) (onHandle (decBlock b) (a .h) (signals (a .a) (a .value))) (handle-finding (decBlock b) (a .h) (signals (a .a) (a .value)) (signal-finding (a .a) (a .value))) (c .before .if1 .taken) _ (c .refused .ensures)
+    refused-call b (a .h .0) _ (c .before .before .before .before .before .resolve .result) (c .before .before .before .before .before .resolve .ensures .0) (onHandle (decBlock b) (a .h .0) (signals (a .a) (a .value))) (handle-finding (decBlock b) (a .h .0) (signals (a .a) (a .value)) (signal-finding (a .a) (a .value))) (c .before .if1 .taken) _ (c .refused .ensures)
 
 answers-requires : tie.Need-answers-requires
 answers-requires c κs = search needs
@@ -31,7 +31,7 @@ returns-2 : tie.Need-returns-2
 returns-2 c = let s = c .before .before .before .before .before .before .before .before .before .before .before in
     let a = s .args in
     let b = a .block .now in
-    not-known b (s .pre .1) (a .h) (signals (a .a) (a .value)) _ (c .before .before .before .before .before .before .before .before .«open» .result) (c .before .before .before .before .before .before .before .before .«open» .ensures .0) (c .before .before .before .before .if1 .left) (handle-finding (decBlock b) (a .h) (signals (a .a) (a .value)) (signal-finding (a .a) (a .value))) (c .before .if2 .taken) _ (c .answers .ensures)
+    not-known b (s .pre .1) (a .h .0) (signals (a .a) (a .value)) _ (c .before .before .before .before .before .before .before .before .resolve .result) (c .before .before .before .before .before .before .before .before .resolve .ensures .0) (c .before .before .before .before .if1 .left) (handle-finding (decBlock b) (a .h .0) (signals (a .a) (a .value)) (signal-finding (a .a) (a .value))) (c .before .if2 .taken) _ (c .answers .ensures)
 
 signal-address-requires : tie.Need-signal-address-requires
 signal-address-requires c κs = search needs
@@ -46,13 +46,13 @@ returns-3 : tie.Need-returns-3
 returns-3 c = let s = c .before .before .before .before .before .before .before .before .before .before .before .before .before .before .before in
     let a = s .args in
     let b = a .block .now in
-    known b (s .pre .1) (a .h) (signals (a .a) (a .value)) _ (c .before .before .before .before .before .before .before .before .before .before .before .before .«open» .result) (c .before .before .before .before .before .before .before .before .before .before .before .before .«open» .ensures .0) (c .before .before .before .before .before .before .before .before .if1 .left) (handle-finding (decBlock b) (a .h) (signals (a .a) (a .value)) (signal-finding (a .a) (a .value))) (c .before .before .before .before .before .if2 .left) _ (c .done .ensures) _ (c .before .before .before .signal-address .ensures)
+    known b (s .pre .1) (a .h .0) (signals (a .a) (a .value)) _ (c .before .before .before .before .before .before .before .before .before .before .before .before .resolve .result) (c .before .before .before .before .before .before .before .before .before .before .before .before .resolve .ensures .0) (c .before .before .before .before .before .before .before .before .if1 .left) (handle-finding (decBlock b) (a .h .0) (signals (a .a) (a .value)) (signal-finding (a .a) (a .value))) (c .before .before .before .before .before .if2 .left) _ (c .done .ensures) _ (c .before .before .before .signal-address .ensures)
 
 pub signal-spec : {M : Type 1} → statement M
 signal-spec =
     tie.close
     (tie.spec
-    open-requires
+    resolve-requires
     refused-requires
     same-length
     returns

@@ -17,7 +17,7 @@ same-length c = search needs
 
 returns : tie.Need-returns
 returns c = let a = c .before .before .before .before .before .before .before .args in
-    rw (not-below (decBlock (a .block .now)) (a .h) (a .decrements) (a .time) (a .a) (a .value) (a .word) (a .tick) (sym (c .before .before .before .before .before .is-below .ensures) ∙ not-true _ (c .before .before .before .before .if1 .taken))) at (c .before .before .go-on .ensures)
+    rw (not-below (decBlock (a .block .now)) (a .h .0) (a .decrements) (a .time) (a .a) (a .value) (a .word) (a .tick .0) (sym (c .before .before .before .before .before .is-below .ensures) ∙ not-true _ (c .before .before .before .before .if1 .taken))) at (c .before .before .go-on .ensures)
 
 over-below-requires : tie.Need-over-below-requires
 over-below-requires c κs = search needs
@@ -33,7 +33,7 @@ same-length-2 c = search needs
 
 returns-2 : tie.Need-returns-2
 returns-2 c = let a = c .before .before .before .before .before .before .before .before .before .args in
-    rw (below (decBlock (a .block .now)) (a .h) (a .decrements) (a .time) (a .a) (a .value) (a .word) (a .tick) (sym (c .before .before .before .before .before .before .before .is-below .ensures) ∙ not-false _ (c .before .before .before .before .before .before .if1 .left)))
+    rw (below (decBlock (a .block .now)) (a .h .0) (a .decrements) (a .time) (a .a) (a .value) (a .word) (a .tick .0) (sym (c .before .before .before .before .before .before .before .is-below .ensures) ∙ not-false _ (c .before .before .before .before .before .before .if1 .left)))
     at (rw (c .before .before .before .before .before .over-below .ensures, c .before .before .before .before .word-after .ensures) at (c .before .before .park-current .ensures))
 
 pub wait-below-spec : {M : Type 1} → statement M

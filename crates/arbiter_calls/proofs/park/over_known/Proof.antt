@@ -19,7 +19,7 @@ names-requires c κs = search needs
 
 returns-2 : tie.Need-returns-2
 unfolding _and_
-returns-2 c = rw (not-false (c .before .before .before .args .over) (c .before .if1 .left)) (names-known (decBlock (c .before .before .before .args .block .now)) (c .before .before .before .args .h) _ (subst (λ (t : Bool). Names (decBlock (c .before .before .before .args .block .now)) (c .before .before .before .args .h) t) (sym (c .names .ensures)) (names-is (c .before .before .before .args .block .now) (c .before .before .before .pre .1 .0) (c .before .before .before .args .h))) (c .before .before .before .pre .1 .1))
+returns-2 c = rw (not-false (c .before .before .before .args .over) (c .before .if1 .left)) (names-known (decBlock (c .before .before .before .args .block .now)) (c .before .before .before .args .h .0) _ (subst (λ (t : Bool). Names (decBlock (c .before .before .before .args .block .now)) (c .before .before .before .args .h .0) t) (sym (c .names .ensures)) (names-is (c .before .before .before .args .block .now) (c .before .before .before .pre .1 .0) (c .before .before .before .args .h .0))) (c .before .before .before .pre .1 .1))
 
 pub over-known-spec : {M : Type 1} → statement M
 over-known-spec =

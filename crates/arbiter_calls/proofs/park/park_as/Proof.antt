@@ -20,7 +20,7 @@ returns : tie.Need-returns
 returns c = let s = c .before .before .before in
     let a = s .args in
     let b = a .block .now in
-    subst (λ (t : ThreadOption). Holds b (parkAs t (decBlock b) (a .o .0) (a .a) (a .time) (a .tick))) (sym (s .pre .1 .1 ∙ c .enum-told .given .1)) (holds b (s .pre .1 .0))
+    subst (λ (t : ThreadOption). Holds b (parkAs t (decBlock b) (a .o .0) (a .a) (a .time) (a .tick .0))) (sym (s .pre .1 .1 ∙ c .enum-told .given .1)) (holds b (s .pre .1 .0))
 
 same-length : tie.Need-same-length
 same-length c = search needs
@@ -29,7 +29,7 @@ returns-2 : tie.Need-returns-2
 returns-2 c = let s = c .before .before .before .before .before .before .before .before in
     let a = s .args in
     let b = a .block .now in
-    subst (λ (t : ThreadOption). Holds (c .before .before .park-at .last .0) (parkAs t (decBlock b) (a .o .0) (a .a) (a .time) (a .tick))) (sym (s .pre .1 .1 ∙ c .before .before .before .before .before .current .given .1)) (c .before .before .park-at .ensures)
+    subst (λ (t : ThreadOption). Holds (c .before .before .park-at .last .0) (parkAs t (decBlock b) (a .o .0) (a .a) (a .time) (a .tick .0))) (sym (s .pre .1 .1 ∙ c .before .before .before .before .before .current .given .1)) (c .before .before .park-at .ensures)
 
 pub park-as-spec : {M : Type 1} → statement M
 park-as-spec =

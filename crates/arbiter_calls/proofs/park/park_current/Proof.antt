@@ -21,12 +21,12 @@ returns : tie.Need-returns
 returns c = let s = c .before .before .before .before .before in
     let a = s .args in
     let b = a .block .now in
-    let v = onHandle (decBlock b) (a .h) (parks (a .a) (a .time) (a .tick) (a .over) (a .word)) in
-    let f = parked-found b (s .pre .1) (a .h) (a .a) (a .time) (a .tick) (a .over) (a .word) ∙ sym (c .before .before .found-parking .ensures) in
+    let v = onHandle (decBlock b) (a .h .0) (parks (a .a) (a .time) (a .tick .0) (a .over) (a .word)) in
+    let f = parked-found b (s .pre .1) (a .h .0) (a .a) (a .time) (a .tick .0) (a .over) (a .word) ∙ sym (c .before .before .found-parking .ensures) in
     (c .refused .ensures ∙ sym (outcome-found v _ f (c .before .if1 .taken)), sym (left-found v b (λ z. c .before .if1 .taken (sym f ∙ z))))
 
-open-requires : tie.Need-open-requires
-open-requires c κs = search needs
+resolve-requires : tie.Need-resolve-requires
+resolve-requires c κs = search needs
 
 answers-requires : tie.Need-answers-requires
 answers-requires c κs = search needs
@@ -38,16 +38,16 @@ returns-2 : tie.Need-returns-2
 returns-2 c = let s = c .before .before .before .before .before .before .before .before .before .before .before .before in
     let a = s .args in
     let b = a .block .now in
-    let p = c .before .before .before .before .before .before .«open» .ensures .0 in
+    let p = c .before .before .before .before .before .before .resolve .ensures .0 in
     let z = sym (c .before .before .before .before .before .before .before .before .before .found-parking .ensures) ∙ c .before .before .before .before .before .before .before .before .if1 .left in
-    let q = parked-opens b (s .pre .1) (a .h) (a .a) (a .over) z in
-    not-known b (s .pre .1) (a .h) (parks (a .a) (a .time) (a .tick) (a .over) (a .word)) _ (c .before .before .before .before .before .before .«open» .result) p (p .found ∙ q) (parked-found b (s .pre .1) (a .h) (a .a) (a .time) (a .tick) (a .over) (a .word) ∙ z ∙ sym q) (c .before .if2 .taken) _ (c .answers .ensures)
+    let q = parked-opens b (s .pre .1) (a .h .0) (a .a) (a .over) z in
+    not-known b (s .pre .1) (a .h .0) (parks (a .a) (a .time) (a .tick .0) (a .over) (a .word)) _ (c .before .before .before .before .before .before .resolve .result) p (p .found ∙ q) (parked-found b (s .pre .1) (a .h .0) (a .a) (a .time) (a .tick .0) (a .over) (a .word) ∙ z ∙ sym q) (c .before .if2 .taken) _ (c .answers .ensures)
 
 current-requires : tie.Need-current-requires
 current-requires c κs = search needs
 
 park-as-requires : tie.Need-park-as-requires
-park-as-requires c κs = (search needs, (c .before .before .before .before .before .before .before .before .«open» .ensures .1, sym (c .before .current .ensures)))
+park-as-requires c κs = (search needs, (c .before .before .before .before .before .before .before .before .resolve .ensures .1, sym (c .before .current .ensures)))
 
 same-length-3 : tie.Need-same-length-3
 same-length-3 c = search needs
@@ -56,10 +56,10 @@ returns-3 : tie.Need-returns-3
 returns-3 c = let s = c .before .before .before .before .before .before .before .before .before .before .before .before .before .before .before .before .before in
     let a = s .args in
     let b = a .block .now in
-    let p = c .before .before .before .before .before .before .before .before .before .before .before .«open» .ensures .0 in
+    let p = c .before .before .before .before .before .before .before .before .before .before .before .resolve .ensures .0 in
     let z = sym (c .before .before .before .before .before .before .before .before .before .before .before .before .before .before .found-parking .ensures) ∙ c .before .before .before .before .before .before .before .before .before .before .before .before .before .if1 .left in
-    let q = parked-opens b (s .pre .1) (a .h) (a .a) (a .over) z in
-    known b (s .pre .1) (a .h) (parks (a .a) (a .time) (a .tick) (a .over) (a .word)) _ (c .before .before .before .before .before .before .before .before .before .before .before .«open» .result) p (p .found ∙ q) (parked-found b (s .pre .1) (a .h) (a .a) (a .time) (a .tick) (a .over) (a .word) ∙ z ∙ sym q) (c .before .before .before .before .before .before .if2 .left) _ refl _ (over-held _ _ (a .over) (c .before .before .park-as .ensures))
+    let q = parked-opens b (s .pre .1) (a .h .0) (a .a) (a .over) z in
+    known b (s .pre .1) (a .h .0) (parks (a .a) (a .time) (a .tick .0) (a .over) (a .word)) _ (c .before .before .before .before .before .before .before .before .before .before .before .resolve .result) p (p .found ∙ q) (parked-found b (s .pre .1) (a .h .0) (a .a) (a .time) (a .tick .0) (a .over) (a .word) ∙ z ∙ sym q) (c .before .before .before .before .before .before .if2 .left) _ refl _ (over-held _ _ (a .over) (c .before .before .park-as .ensures))
 
 pub park-current-spec : {M : Type 1} → statement M
 park-current-spec =
@@ -69,7 +69,7 @@ park-current-spec =
     refused-requires
     same-length
     returns
-    open-requires
+    resolve-requires
     answers-requires
     same-length-2
     returns-2

@@ -9,11 +9,11 @@ is-pseudo-requires c κs = search needs
 returns : tie.Need-returns
 returns c = rw (sym (c .before .is-pseudo .ensures) ∙ c .if1 .taken)
 
-object-of-requires : tie.Need-object-of-requires
-object-of-requires c κs = search needs
+resolve-requires : tie.Need-resolve-requires
+resolve-requires c κs = search needs
 
 returns-2 : tie.Need-returns-2
-returns-2 c = rw (sym (c .before .before .is-pseudo .ensures) ∙ c .before .if1 .left) (c .object-of .ensures)
+returns-2 c = rw (sym (c .before .before .is-pseudo .ensures) ∙ c .before .if1 .left) (c .resolve .ensures)
 
 pub open-object-spec : {M : Type 1} → statement M
-open-object-spec = tie.close (tie.spec is-pseudo-requires returns object-of-requires returns-2)
+open-object-spec = tie.close (tie.spec is-pseudo-requires returns resolve-requires returns-2)

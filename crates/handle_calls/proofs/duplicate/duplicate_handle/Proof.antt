@@ -41,8 +41,8 @@ same-length c = search needs
 returns : tie.Need-returns
 returns c = search needs
 
-open-requires : tie.Need-open-requires
-open-requires c κs = search needs
+resolve-requires : tie.Need-resolve-requires
+resolve-requires c κs = search needs
 
 refused-requires : tie.Need-refused-requires
 refused-requires c κs = search needs
@@ -54,7 +54,7 @@ returns-2 : tie.Need-returns-2
 returns-2 c = let b = c .before .before .before .before .before .before .before .before .before .before .before .before .before .before .args .block .now in
     let f = c .before .before .before .before .before .before .before .before .found-of .ensures ∙ (λ i. foundOf (leb 256 ((c .before .before .before .before .before .before .before .before .before .get322 .ensures ∙ count-is b) i)) (leb 0xFFFF8000 ((c .before .before .before .before .before .before .before .before .before .before .before .get32 .ensures ∙ next-is b) i))) in
     let w = room-for (c .before .before .before .before .before .before .before .before .found-of .result) (decBlock b .handles .count) (decBlock b .handles .next .0) f (c .before .before .before .before .before .before .before .if1 .left) in
-    refused-call b (c .before .before .before .before .before .before .before .before .before .before .before .before .before .before .args .r .r1) _ (c .before .before .before .before .before .«open» .result) (c .before .before .before .before .before .«open» .ensures .0) (duplicateHandle (decBlock b) (c .before .before .before .before .before .before .before .before .before .before .before .before .before .before .args .r)) (duplicate-finding b (c .before .before .before .before .before .before .before .before .before .before .before .before .before .before .args .r) (w .0) (w .1)) (c .before .if2 .taken) _ (c .refused .ensures)
+    refused-call b (c .before .before .before .before .before .before .before .before .before .before .before .before .before .before .args .r .r1) _ (c .before .before .before .before .before .resolve .result) (c .before .before .before .before .before .resolve .ensures .0) (duplicateHandle (decBlock b) (c .before .before .before .before .before .before .before .before .before .before .before .before .before .before .args .r)) (duplicate-finding b (c .before .before .before .before .before .before .before .before .before .before .before .before .before .before .args .r) (w .0) (w .1)) (c .before .if2 .taken) _ (c .refused .ensures)
 
 answers-requires : tie.Need-answers-requires
 answers-requires c κs = search needs
@@ -67,17 +67,17 @@ unfolding duplicateHandle
 returns-3 c = let b = c .before .before .before .before .before .before .before .before .before .before .before .before .before .before .before .before .before .args .block .now in
     let f = c .before .before .before .before .before .before .before .before .before .before .before .found-of .ensures ∙ (λ i. foundOf (leb 256 ((c .before .before .before .before .before .before .before .before .before .before .before .before .get322 .ensures ∙ count-is b) i)) (leb 0xFFFF8000 ((c .before .before .before .before .before .before .before .before .before .before .before .before .before .before .get32 .ensures ∙ next-is b) i))) in
     let w = room-for (c .before .before .before .before .before .before .before .before .before .before .before .found-of .result) (decBlock b .handles .count) (decBlock b .handles .next .0) f (c .before .before .before .before .before .before .before .before .before .before .if1 .left) in
-    let p = c .before .before .before .before .before .before .before .before .«open» .ensures .0 in
+    let p = c .before .before .before .before .before .before .before .before .resolve .ensures .0 in
     let o = p .object (c .before .before .before .before .if2 .left) in
     let u : _≡_ {A = Served} (answers 16 (withObjects (decBlock b) (resolved (decBlock b) (c .before .before .before .before .before .before .before .before .before .before .before .before .before .before .before .before .before .args .r .r1) .store))) (duplicateHandle (decBlock b) (c .before .before .before .before .before .before .before .before .before .before .before .before .before .before .before .before .before .args .r)) = rw (eq-eqb _ 0 (sym o ∙ c .before .if3 .taken)) in
-    accepted-call b (c .before .before .before .before .before .before .before .before .before .before .before .before .before .before .before .before .before .args .r .r1) _ (c .before .before .before .before .before .before .before .before .«open» .result) p (duplicateHandle (decBlock b) (c .before .before .before .before .before .before .before .before .before .before .before .before .before .before .before .before .before .args .r)) (duplicate-finding b (c .before .before .before .before .before .before .before .before .before .before .before .before .before .before .before .before .before .args .r) (w .0) (w .1)) (c .before .before .before .before .if2 .left) _ u _ (c .answers .ensures) _ (p .holds (c .before .before .before .before .if2 .left))
+    accepted-call b (c .before .before .before .before .before .before .before .before .before .before .before .before .before .before .before .before .before .args .r .r1) _ (c .before .before .before .before .before .before .before .before .resolve .result) p (duplicateHandle (decBlock b) (c .before .before .before .before .before .before .before .before .before .before .before .before .before .before .before .before .before .args .r)) (duplicate-finding b (c .before .before .before .before .before .before .before .before .before .before .before .before .before .before .before .before .before .args .r) (w .0) (w .1)) (c .before .before .before .before .if2 .left) _ u _ (c .answers .ensures) _ (p .holds (c .before .before .before .before .if2 .left))
 
 put-duplicate-requires : tie.Need-put-duplicate-requires
 put-duplicate-requires c κs = let b = c .before .before .before .before .before .before .before .before .before .before .before .before .before .before .before .before .before .args .block .now in
     let f = c .before .before .before .before .before .before .before .before .before .before .before .found-of .ensures ∙ (λ i. foundOf (leb 256 ((c .before .before .before .before .before .before .before .before .before .before .before .before .get322 .ensures ∙ count-is b) i)) (leb 0xFFFF8000 ((c .before .before .before .before .before .before .before .before .before .before .before .before .before .before .get32 .ensures ∙ next-is b) i))) in
     let w = room-for (c .before .before .before .before .before .before .before .before .before .before .before .found-of .result) (decBlock b .handles .count) (decBlock b .handles .next .0) f (c .before .before .before .before .before .before .before .before .before .before .if1 .left) in
-    let k = opened-state b (c .before .before .before .before .before .before .before .before .before .before .before .before .before .before .before .before .before .pre .1) (c .before .before .before .before .before .before .before .before .before .before .before .before .before .before .before .before .before .args .r .r1) _ _ (c .before .before .before .before .before .before .before .before .«open» .ensures .0) (c .before .before .before .before .if2 .left) in
-    (search needs, (c .before .before .before .before .before .before .before .before .«open» .ensures .1, (subst (λ (q : Kernel). q .handles .count < 256) (sym k) (w .0), subst (λ (q : Kernel). q .handles .next .0 < 0xFFFF8000) (sym k) (w .1))))
+    let k = opened-state b (c .before .before .before .before .before .before .before .before .before .before .before .before .before .before .before .before .before .pre .1) (c .before .before .before .before .before .before .before .before .before .before .before .before .before .before .before .before .before .args .r .r1) _ _ (c .before .before .before .before .before .before .before .before .resolve .ensures .0) (c .before .before .before .before .if2 .left) in
+    (search needs, (c .before .before .before .before .before .before .before .before .resolve .ensures .1, (subst (λ (q : Kernel). q .handles .count < 256) (sym k) (w .0), subst (λ (q : Kernel). q .handles .next .0 < 0xFFFF8000) (sym k) (w .1))))
 
 gives-requires : tie.Need-gives-requires
 gives-requires c κs = search needs
@@ -90,12 +90,12 @@ unfolding duplicateHandle create
 returns-4 c = let b = c .before .before .before .before .before .before .before .before .before .before .before .before .before .before .before .before .before .before .before .before .before .args .block .now in
     let f = c .before .before .before .before .before .before .before .before .before .before .before .before .before .before .before .found-of .ensures ∙ (λ i. foundOf (leb 256 ((c .before .before .before .before .before .before .before .before .before .before .before .before .before .before .before .before .get322 .ensures ∙ count-is b) i)) (leb 0xFFFF8000 ((c .before .before .before .before .before .before .before .before .before .before .before .before .before .before .before .before .before .before .get32 .ensures ∙ next-is b) i))) in
     let w = room-for (c .before .before .before .before .before .before .before .before .before .before .before .before .before .before .before .found-of .result) (decBlock b .handles .count) (decBlock b .handles .next .0) f (c .before .before .before .before .before .before .before .before .before .before .before .before .before .before .if1 .left) in
-    let p = c .before .before .before .before .before .before .before .before .before .before .before .before .«open» .ensures .0 in
+    let p = c .before .before .before .before .before .before .before .before .before .before .before .before .resolve .ensures .0 in
     let k = opened-state b (c .before .before .before .before .before .before .before .before .before .before .before .before .before .before .before .before .before .before .before .before .before .pre .1) (c .before .before .before .before .before .before .before .before .before .before .before .before .before .before .before .before .before .before .before .before .before .args .r .r1) _ _ p (c .before .before .before .before .before .before .before .before .if2 .left) in
     let o = p .object (c .before .before .before .before .before .before .before .before .if2 .left) in
-    let u : _≡_ {A = Served} (gives (after (decBlock (c .before .before .before .before .before .before .before .before .before .before .before .before .«open» .last .0)) (c .before .before .before .before .before .before .before .before .before .before .before .before .«open» .result .object .0)) (c .before .before .before .before .before .before .before .before .before .before .before .before .before .before .before .before .before .before .get32 .result)) (duplicateHandle (decBlock b) (c .before .before .before .before .before .before .before .before .before .before .before .before .before .before .before .before .before .before .before .before .before .args .r)) =
+    let u : _≡_ {A = Served} (gives (after (decBlock (c .before .before .before .before .before .before .before .before .before .before .before .before .resolve .last .0)) (c .before .before .before .before .before .before .before .before .before .before .before .before .resolve .result .object .0)) (c .before .before .before .before .before .before .before .before .before .before .before .before .before .before .before .before .before .before .get32 .result)) (duplicateHandle (decBlock b) (c .before .before .before .before .before .before .before .before .before .before .before .before .before .before .before .before .before .before .before .before .before .args .r)) =
     (λ i. gives (after (k i) (o i)) ((c .before .before .before .before .before .before .before .before .before .before .before .before .before .before .before .before .before .before .get32 .ensures ∙ next-is b) i)) ∙ rw (ne-eqb _ 0 (λ z. c .before .before .before .before .before .if3 .left (o ∙ z))) in
-    accepted-call b (c .before .before .before .before .before .before .before .before .before .before .before .before .before .before .before .before .before .before .before .before .before .args .r .r1) _ (c .before .before .before .before .before .before .before .before .before .before .before .before .«open» .result) p (duplicateHandle (decBlock b) (c .before .before .before .before .before .before .before .before .before .before .before .before .before .before .before .before .before .before .before .before .before .args .r)) (duplicate-finding b (c .before .before .before .before .before .before .before .before .before .before .before .before .before .before .before .before .before .before .before .before .before .args .r) (w .0) (w .1)) (c .before .before .before .before .before .before .before .before .if2 .left) _ u _ (c .gives .ensures) _ (c .before .before .before .put-duplicate .ensures)
+    accepted-call b (c .before .before .before .before .before .before .before .before .before .before .before .before .before .before .before .before .before .before .before .before .before .args .r .r1) _ (c .before .before .before .before .before .before .before .before .before .before .before .before .resolve .result) p (duplicateHandle (decBlock b) (c .before .before .before .before .before .before .before .before .before .before .before .before .before .before .before .before .before .before .before .before .before .args .r)) (duplicate-finding b (c .before .before .before .before .before .before .before .before .before .before .before .before .before .before .before .before .before .before .before .before .before .args .r) (w .0) (w .1)) (c .before .before .before .before .before .before .before .before .if2 .left) _ u _ (c .gives .ensures) _ (c .before .before .before .put-duplicate .ensures)
 
 pub duplicate-handle-spec : {M : Type 1} → statement M
 duplicate-handle-spec =
@@ -107,7 +107,7 @@ duplicate-handle-spec =
     without-room-requires
     same-length
     returns
-    open-requires
+    resolve-requires
     refused-requires
     same-length-2
     returns-2

@@ -6,7 +6,7 @@ returns : tie.Need-returns
 returns c = rw (eq-eqb _ 0 (c .if1 .taken))
 
 returns-2 : tie.Need-returns-2
-returns-2 c = rw (ne-eqb _ 0 (c .if1 .left))
+returns-2 c = rw (ne-eqb _ 0 (c .before .if1 .left))
 
 pub option-of-spec : {M : Type 1} → statement M
 option-of-spec = tie.close (tie.spec returns returns-2)

@@ -15,13 +15,13 @@ returns c = rw (c .thread-flag .ensures, c .before .current .ensures, eq-eqb _ 0
 returns-2 : tie.Need-returns-2
 returns-2 c = rw (ne-eqb _ 0xFFFF8000 (c .before .if1 .left), eq-eqb _ 0xFFFF8001 (c .if2 .taken))
 
-object-of-requires : tie.Need-object-of-requires
-object-of-requires c κs = search needs
+resolve-requires : tie.Need-resolve-requires
+resolve-requires c κs = search needs
 
 returns-3 : tie.Need-returns-3
-returns-3 c = rw (ne-eqb _ 0xFFFF8000 (c .before .before .before .if1 .left), ne-eqb _ 0xFFFF8001 (c .before .before .if2 .left), c .before .object-of .ensures)
+returns-3 c = rw (ne-eqb _ 0xFFFF8000 (c .before .before .before .if1 .left), ne-eqb _ 0xFFFF8001 (c .before .before .if2 .left), c .before .resolve .ensures)
 
 pub names-spec : {M : Type 1} → statement M
 names-spec =
     tie.close
-    (tie.spec current-requires thread-flag-requires returns returns-2 object-of-requires returns-3)
+    (tie.spec current-requires thread-flag-requires returns returns-2 resolve-requires returns-3)

@@ -8,13 +8,13 @@ get32-requires : tie.Need-get32-requires
 get32-requires c κs = search needs
 
 returns : tie.Need-returns
-returns c = room-some (c .before .before .before .args .block .now) (c .before .before .before .args .h) (c .before .get32 .result) (c .before .get32 .ensures) (c .if1 .taken)
+returns c = room-some (c .before .before .before .args .block .now) (c .before .before .before .args .h .0) (c .before .get32 .result) (c .before .get32 .ensures) (c .if1 .taken)
 
 makes-requires : tie.Need-makes-requires
 makes-requires c κs = search needs
 
 returns-2 : tie.Need-returns-2
-returns-2 c = c .makes .ensures ∙ room-none (c .before .before .before .before .args .block .now) (c .before .before .before .before .args .h) (c .before .before .get32 .result) (c .before .before .get32 .ensures) (c .before .if1 .left)
+returns-2 c = c .makes .ensures ∙ room-none (c .before .before .before .before .args .block .now) (c .before .before .before .before .args .h .0) (c .before .before .get32 .result) (c .before .before .get32 .ensures) (c .before .if1 .left)
 
 pub no-room-spec : {M : Type 1} → statement M
 no-room-spec = tie.close (tie.spec get32-requires returns makes-requires returns-2)

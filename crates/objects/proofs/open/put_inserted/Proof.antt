@@ -36,7 +36,7 @@ returns c = let b = c .before .before .before .before .before .before .before .b
     let s = c .before .before .before .before .before .before .before .before .before .before .before .before .before .before .before .before .before .pre .1 in
     let h = c .before .before .before .before .before .before .before .before .before .before .before .before .before .before .get-head in
     rw (c .before .before .put-head .ensures, c .before .before .before .before .before .before .put-slot .ensures)
-    (inserted b _ (holds b s) (c .before .before .before .before .before .before .before .before .before .before .before .before .before .before .before .before .before .args .v) (c .before .before .before .before .before .before .before .before .before .before .before .before .before .before .before .before .before .args .process) (h .result) (h .ensures ∙ sound-head b s) (c .before .before .before .before .before .before .before .before .before .slot-at .result) (c .before .before .before .before .before .before .before .before .before .slot-at .ensures) (c .before .before .before .before .before .before .before .before .next-of .result) (c .before .before .before .before .before .before .before .before .next-of .ensures))
+    (inserted b _ (holds b s) (c .before .before .before .before .before .before .before .before .before .before .before .before .before .before .before .before .before .args .v) (c .before .before .before .before .before .before .before .before .before .before .before .before .before .before .before .before .before .args .process .0) (h .result) (h .ensures ∙ sound-head b s) (c .before .before .before .before .before .before .before .before .before .slot-at .result) (c .before .before .before .before .before .before .before .before .before .slot-at .ensures) (c .before .before .before .before .before .before .before .before .next-of .result) (c .before .before .before .before .before .before .before .before .next-of .ensures))
 
 pub put-inserted-spec : {M : Type 1} → statement M
 put-inserted-spec =

@@ -20,10 +20,10 @@ returns c =
     let e = c .if1 .taken in (
       (λ w. absurd (omega (arith, s .pre .1 .1, w))),
       (
-        (λ w. lone-nil x (a .m .now) 64 (a .h) e),
+        (λ w. lone-nil x (a .m .now) 64 (a .head) e),
         (
-          (λ w. mark-nil x (a .m .now) 64 (a .h) e .1),
-          ((λ w. w), ((λ w ad. ap (chain? (take 64 (a .ts .now)) ad (a .n)) (walk-nil x 64 (a .h) e)), s .pre .1 .0)),
+          (λ w. mark-nil x (a .m .now) 64 (a .head) e .1),
+          ((λ w. w), ((λ w ad. ap (chain? (take 64 (a .ts .now)) ad (a .n)) (walk-nil x 64 (a .head) e)), s .pre .1 .0)),
         ),
       ),
     )
@@ -45,7 +45,7 @@ returns-2 c =
           (
             (λ w. eqb-true (a .found) 1 (and-true _ _ (outcome-apart _ _ (sym (k .0) ∙ w)) .0)),
             (
-              (λ w ad. apart-chain (a .n) (take 64 (a .ts .now)) ad (a .mark) (walk x 64 (a .h)) (a .seen .now) (s .pre .1 .0) (and-true _ _ (outcome-apart _ _ (sym (k .0) ∙ w)) .1)),
+              (λ w ad. apart-chain (a .n) (take 64 (a .ts .now)) ad (a .mark) (walk x 64 (a .head)) (a .seen .now) (s .pre .1 .0) (and-true _ _ (outcome-apart _ _ (sym (k .0) ∙ w)) .1)),
               k .1 .1,
             ),
           ),

@@ -5,6 +5,9 @@ use borrow.Author.Needs.{needs}
 use Rattle.question.proofs.handles.count_at.Statement.{statement}
 use Rattle.question.proofs.handles.count_at.Tie as tie
 
+cast-i : tie.Need-cast-i
+cast-i c = search needs
+
 mul-v : tie.Need-mul-v
 mul-v c = search needs
 
@@ -22,7 +25,7 @@ element-write-c c = search needs
 
 returns : tie.Need-returns
 unfolding bump
-returns c = rw (lt-ltb (c .before .args .o) 129 (omega (arith, c .before .pre .0)), lt-ltb _ 100000 (c .before .pre .1))
+returns c = rw (lt-ltb (c .before .args .o .0) 129 (omega (arith, c .before .pre .0)), lt-ltb _ 100000 (c .before .pre .1))
 
 pub count-at-spec : {M : Type 1} → statement M
-count-at-spec = tie.close (tie.spec mul-v element-copy-out-v add-c mul-c element-write-c returns)
+count-at-spec = tie.close (tie.spec cast-i mul-v element-copy-out-v add-c mul-c element-write-c returns)

@@ -39,7 +39,7 @@ returns c =
     let b = a .b .now in
     let es = entriesIn b in
     let n : length es ≡ 256 = length-decAll decEntry 8 256 b 10368 in
-    (sym (rising-far (a .count) 0x10000 (a .next) es (omega (arith, c .if1 .taken))), λ e. false-true e)
+    (sym (rising-far (a .count) 0x10000 (a .next .0) es (omega (arith, c .if1 .taken))), λ e. false-true e)
 
 loop-holds : tie.Need-loop-holds Inv-loop μ-loop
 loop-holds c = (refl, (search needs, (let e : c .before .before .args .count - 0 ≡ c .before .before .args .count = omega arith in rw e, (refl, (ap length (c .before .before .pre .1), λ j. rw (c .before .before .pre .1) (zero-le 129 j))))))
@@ -60,7 +60,7 @@ returns-2 c =
     let h : l .i < length es = omega (arith, l .inv, c .before .before .before .before .before .if1 .left) in
     let q : l .i < a .count = omega (arith, l .inv) in
     let t = c .before .before .entry-at .ensures ∙ row-at decEntry 8 none 256 b 10368 (l .i) (omega arith) in (
-      sym (rising-step es (a .count) (l .i) (l .low) (a .next) none h q ∙ and-no _ _ (ap (λ (x : HandleEntry). entry? (l .low) x) (sym t) ∙ sym (c .before .entry-ok .ensures) ∙ not-true _ (c .if2 .taken))) ∙ l .inv .1 .1 .0,
+      sym (rising-step es (a .count) (l .i) (l .low) (a .next .0) none h q ∙ and-no _ _ (ap (λ (x : HandleEntry). entry? (l .low) x) (sym t) ∙ sym (c .before .entry-ok .ensures) ∙ not-true _ (c .if2 .taken))) ∙ l .inv .1 .1 .0,
       λ e. false-true e,
     )
 
@@ -100,7 +100,7 @@ loop-again c =
       (
         search needs,
         (
-          rw t (sym (rising-step es (a .count) (l .i) (l .low) (a .next) none h q ∙ and-yes _ _ f) ∙ l .inv .1 .1 .0),
+          rw t (sym (rising-step es (a .count) (l .i) (l .low) (a .next .0) none h q ∙ and-yes _ _ f) ∙ l .inv .1 .1 .0),
           (
             rw (c .before .count-at .ensures, t, ← entry-names (l .low) _ f)
                 (sym (tally-more 129 (λ (x : HandleEntry). nameOf (x .object .0)) es (l .i) none (l .c) h) ∙ l .inv .1 .1 .1 .0),
@@ -113,6 +113,9 @@ loop-again c =
       ),
     )
 
+cast-if3 : tie.Need-cast-if3 Inv-loop μ-loop
+cast-if3 c = search needs
+
 returns-3 : tie.Need-returns-3 Inv-loop μ-loop
 returns-3 c =
     let a = c .before .before .before .before .before .args in
@@ -121,7 +124,7 @@ returns-3 c =
     let n : length es ≡ 256 = length-decAll decEntry 8 256 b 10368 in
     let l = c .before .before .loop in
     let e : a .count ≤ l .i = omega (arith, l .inv, c .before .loop-test .left) in (
-      sym (rising-end (drop (l .i) es) (a .count) (l .i) (l .low) (a .next) e ∙ and-no _ _ (lt-leb _ _ (c .if3 .taken))) ∙ l .inv .1 .1 .0,
+      sym (rising-end (drop (l .i) es) (a .count) (l .i) (l .low) (a .next .0) e ∙ and-no _ _ (lt-leb _ _ (c .if3 .taken))) ∙ l .inv .1 .1 .0,
       λ e. false-true e,
     )
 
@@ -155,7 +158,7 @@ returns-4 c =
     let w : c .zero-words .result ≡ noEntries? (drop m es) =
     c .zero-words .ensures ∙ ap (λ (x : ℕ). same (take x (drop (10368 + m * 8) b)) (replicate x 0)) z ∙ none-zero (256 - m) b (10368 + m * 8) (omega (arith, c .before .before .before .before .before .before .pre))
     ∙ ap noEntries? (sym (rows-drop decEntry 8 256 m b 10368 k)) in (
-      w ∙ sym (rising-end (drop m es) m m (l .low) (a .next) (omega arith) ∙ and-yes _ _ (le-leb _ _ (c .before .if3 .left))) ∙ v .0,
+      w ∙ sym (rising-end (drop m es) m m (l .low) (a .next .0) (omega arith) ∙ and-yes _ _ (le-leb _ _ (c .before .if3 .left))) ∙ v .0,
       λ r. sym (none-tally (l .c) (drop m es) (sym w ∙ r)) ∙ v .1 .0,
     )
 
@@ -176,6 +179,7 @@ handles-ok-spec =
     add-i
     loop-less
     loop-again
+    cast-if3
     returns-3
     mul-zero-words
     add-zero-words

@@ -14,7 +14,7 @@ use Rattle.quiet_release.proofs.quiet.all_calm.Statement.{statement}
 use Rattle.quiet_release.proofs.quiet.all_calm.Tie as tie
 
 abbrev Inv-loop : tie.InvT-loop
-Inv-loop b o c p i₀ i = (i ≤ 32) × (calmFrom o c p i (drop i (decBlock b .threads)) ≡ calmFrom o c p 0 (decBlock b .threads))
+Inv-loop b o c p i₀ i = (i ≤ 32) × (calmFrom (o .0) c p i (drop i (decBlock b .threads)) ≡ calmFrom (o .0) c p 0 (decBlock b .threads))
 
 abbrev μ-loop : tie.MeasureT-loop
 μ-loop b o c p i₀ i = 32 - i
@@ -38,8 +38,8 @@ returns c =
     let i = d .loop .i in
     let h : i < length (decBlock (a .b .now) .threads) = omega (arith, size-threads (a .b .now)) in
     let t = c .before .before .thread-at .ensures ∙ thread-is (a .b .now) i (omega arith) in
-    let e = c .before .calm .ensures ∙ ap (λ (x : Thread). calm (a .o) (a .c) (a .p) i x (x .status)) t in
-    calm-no (a .o) (a .c) (a .p) (decBlock (a .b .now) .threads) i h (sym e ∙ not-true _ (c .if1 .taken)) ∙ d .loop .inv .1
+    let e = c .before .calm .ensures ∙ ap (λ (x : Thread). calm (a .o .0) (a .c) (a .p) i x (x .status)) t in
+    calm-no (a .o .0) (a .c) (a .p) (decBlock (a .b .now) .threads) i h (sym e ∙ not-true _ (c .if1 .taken)) ∙ d .loop .inv .1
 
 add-i : tie.Need-add-i Inv-loop μ-loop
 add-i c = search needs
@@ -54,14 +54,14 @@ loop-again c =
     let i = d .loop .i in
     let h : i < length (decBlock (a .b .now) .threads) = omega (arith, size-threads (a .b .now)) in
     let t = c .before .before .thread-at .ensures ∙ thread-is (a .b .now) i (omega arith) in
-    let e = c .before .calm .ensures ∙ ap (λ (x : Thread). calm (a .o) (a .c) (a .p) i x (x .status)) t in
-    (search needs, calm-yes (a .o) (a .c) (a .p) (decBlock (a .b .now) .threads) i h (sym e ∙ not-false _ (c .if1 .left)) ∙ d .loop .inv .1)
+    let e = c .before .calm .ensures ∙ ap (λ (x : Thread). calm (a .o .0) (a .c) (a .p) i x (x .status)) t in
+    (search needs, calm-yes (a .o .0) (a .c) (a .p) (decBlock (a .b .now) .threads) i h (sym e ∙ not-false _ (c .if1 .left)) ∙ d .loop .inv .1)
 
 returns-2 : tie.Need-returns-2 Inv-loop μ-loop
 returns-2 c =
     let l = c .before .loop in
     let a = c .before .before .before .args in
-    calm-end (a .o) (a .c) (a .p) (decBlock (a .b .now) .threads) (l .i) (omega (arith, size-threads (a .b .now))) ∙ l .inv .1
+    calm-end (a .o .0) (a .c) (a .p) (decBlock (a .b .now) .threads) (l .i) (omega (arith, size-threads (a .b .now))) ∙ l .inv .1
 
 pub all-calm-spec : {M : Type 1} → statement M
 all-calm-spec =

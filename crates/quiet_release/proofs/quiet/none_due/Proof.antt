@@ -10,7 +10,7 @@ use Rattle.quiet_release.proofs.quiet.none_due.Statement.{statement}
 use Rattle.quiet_release.proofs.quiet.none_due.Tie as tie
 
 abbrev Inv-loop : tie.InvT-loop
-Inv-loop b tick i₀ i = (i ≤ 128) × (anyMoves tick (drop i (decBlock b .objects .slots)) ≡ anyMoves tick (decBlock b .objects .slots))
+Inv-loop b tick i₀ i = (i ≤ 128) × (anyMoves (tick .0) (drop i (decBlock b .objects .slots)) ≡ anyMoves (tick .0) (decBlock b .objects .slots))
 
 abbrev μ-loop : tie.MeasureT-loop
 μ-loop b tick i₀ i = 128 - i
@@ -28,8 +28,8 @@ returns : tie.Need-returns Inv-loop μ-loop
 returns c =
     let d = c .before .before .before .before in
     let a = d .before .before .args in
-    let e = sym (c .before .may-change .ensures ∙ ap (moves (a .tick)) (c .before .before .slot-at .ensures)) ∙ c .if1 .taken in
-    still-no (a .tick) (decBlock (a .b .now) .objects .slots) (look-hit (a .b .now) (moves (a .tick)) (anyMoves (a .tick)) (moves-none (a .tick)) (moves-more (a .tick)) (d .loop .i) (d .loop .inv .1) (omega arith) e)
+    let e = sym (c .before .may-change .ensures ∙ ap (moves (a .tick .0)) (c .before .before .slot-at .ensures)) ∙ c .if1 .taken in
+    still-no (a .tick .0) (decBlock (a .b .now) .objects .slots) (look-hit (a .b .now) (moves (a .tick .0)) (anyMoves (a .tick .0)) (moves-none (a .tick .0)) (moves-more (a .tick .0)) (d .loop .i) (d .loop .inv .1) (omega arith) e)
 
 add-i : tie.Need-add-i Inv-loop μ-loop
 add-i c = search needs
@@ -41,14 +41,14 @@ loop-again : tie.Need-loop-again Inv-loop μ-loop
 loop-again c =
     let d = c .before .before .before .before in
     let a = d .before .before .args in
-    let e = sym (c .before .may-change .ensures ∙ ap (moves (a .tick)) (c .before .before .slot-at .ensures)) ∙ c .if1 .left in
-    (search needs, look-miss (a .b .now) (moves (a .tick)) (anyMoves (a .tick)) (moves-none (a .tick)) (moves-more (a .tick)) (d .loop .i) (d .loop .inv .1) (omega arith) e)
+    let e = sym (c .before .may-change .ensures ∙ ap (moves (a .tick .0)) (c .before .before .slot-at .ensures)) ∙ c .if1 .left in
+    (search needs, look-miss (a .b .now) (moves (a .tick .0)) (anyMoves (a .tick .0)) (moves-none (a .tick .0)) (moves-more (a .tick .0)) (d .loop .i) (d .loop .inv .1) (omega arith) e)
 
 returns-2 : tie.Need-returns-2 Inv-loop μ-loop
 returns-2 c =
     let d = c .before in
     let a = d .before .before .args in
-    still-yes (a .tick) (decBlock (a .b .now) .objects .slots) (look-end (a .b .now) (moves (a .tick)) (anyMoves (a .tick)) (moves-none (a .tick)) (moves-more (a .tick)) (d .loop .i) (d .loop .inv .1) (omega arith))
+    still-yes (a .tick .0) (decBlock (a .b .now) .objects .slots) (look-end (a .b .now) (moves (a .tick .0)) (anyMoves (a .tick .0)) (moves-none (a .tick .0)) (moves-more (a .tick .0)) (d .loop .i) (d .loop .inv .1) (omega arith))
 
 pub none-due-spec : {M : Type 1} → statement M
 none-due-spec =

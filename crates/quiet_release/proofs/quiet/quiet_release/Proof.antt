@@ -18,7 +18,7 @@ returns : tie.Need-returns
 returns c =
     let a = c .before .before .before .before .args in
     let o = c .before .before .open-object in
-    c .release-as .ensures ∙ release-is (decBlock (a .b .now)) (a .h) (a .tick) (o .result .0) (c .before .slot-at .result) (o .ensures) (c .before .slot-at .ensures)
+    c .release-as .ensures ∙ release-is (decBlock (a .b .now)) (a .h .0) (a .tick .0) (o .result .0) (c .before .slot-at .result) (o .ensures) (c .before .slot-at .ensures)
 
 pub quiet-release-spec : {M : Type 1} → statement M
 quiet-release-spec =

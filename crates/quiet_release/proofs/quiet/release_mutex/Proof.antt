@@ -20,7 +20,7 @@ returns-2 : tie.Need-returns-2
 returns-2 c =
     let g = c .before .before in
     let a = g .before .before .before .args in
-    rw (le-ltb _ _ (g .if1 .left)) (c .frees-quietly .ensures ∙ ap (λ (u : ThreadOption). freesQuietly u (decBlock (a .b .now)) (a .o) (a .tick)) (c .before .current .ensures))
+    rw (le-ltb _ _ (g .if1 .left)) (c .frees-quietly .ensures ∙ ap (λ (u : ThreadOption). freesQuietly u (decBlock (a .b .now)) (a .o .0) (a .tick .0)) (c .before .current .ensures))
 
 pub release-mutex-spec : {M : Type 1} → statement M
 release-mutex-spec =

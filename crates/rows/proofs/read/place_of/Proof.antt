@@ -33,7 +33,7 @@ unfolding decBlock
 returns c = let d = c .before .before .before .before .before in
     let b = d .before .before .args .b .now in
     let x = ap (λ (e : HandleEntry). e .handle .0) (sym (c .before .before .before .entry-at .ensures ∙ row-at decEntry 8 noEntry 256 b 10368 (d .loop .i) (omega arith))) in
-    omega (arith, d .loop .inv .1, place-hit (entriesIn b) (d .before .before .args .h) (d .loop .i) (omega (arith, length-decAll decEntry 8 256 b 10368)) (x ∙ c .if1 .taken))
+    omega (arith, d .loop .inv .1, place-hit (entriesIn b) (d .before .before .args .h .0) (d .loop .i) (omega (arith, length-decAll decEntry 8 256 b 10368)) (x ∙ c .if1 .taken))
 
 -- src/read.rt:76:9
 add-i : tie.Need-add-i Inv-loop μ-loop
@@ -48,14 +48,14 @@ loop-again : tie.Need-loop-again Inv-loop μ-loop
 loop-again c = let d = c .before .before .before .before .before in
     let b = d .before .before .args .b .now in
     let x = ap (λ (e : HandleEntry). e .handle .0) (sym (c .before .before .before .entry-at .ensures ∙ row-at decEntry 8 noEntry 256 b 10368 (d .loop .i) (omega arith))) in
-    (search needs, omega (arith, d .loop .inv .1, place-miss (entriesIn b) (d .before .before .args .h) (d .loop .i) (omega (arith, length-decAll decEntry 8 256 b 10368)) (λ z. c .if1 .left (sym x ∙ z))))
+    (search needs, omega (arith, d .loop .inv .1, place-miss (entriesIn b) (d .before .before .args .h .0) (d .loop .i) (omega (arith, length-decAll decEntry 8 256 b 10368)) (λ z. c .if1 .left (sym x ∙ z))))
 
 -- src/read.rt:65:1
 returns-2 : tie.Need-returns-2 Inv-loop μ-loop
 unfolding decBlock
 returns-2 c = let d = c .before in
     let b = d .before .before .args .b .now in
-    omega (arith, d .loop .inv .1, place-end (entriesIn b) (d .before .before .args .h) (d .loop .i) (omega (arith, length-decAll decEntry 8 256 b 10368)))
+    omega (arith, d .loop .inv .1, place-end (entriesIn b) (d .before .before .args .h .0) (d .loop .i) (omega (arith, length-decAll decEntry 8 256 b 10368)))
 
 pub place-of-spec : {M : Type 1} → statement M
 place-of-spec =

@@ -26,7 +26,7 @@ unfolding decBlock
 returns c = let s = c .before .before in
     let a = s .before .before .args in
     c .no-slot .ensures
-    ∙ sym (slotAt-out (slotsIn (a .b .now)) (a .o) (λ p. omega (arith, length-decAll decSlot 40 128 (a .b .now) 5248, slot-past (a .o) (sym (s .is-slot .ensures) ∙ not-true _ (c .before .if1 .taken)) p)))
+    ∙ sym (slotAt-out (slotsIn (a .b .now)) (a .o .0) (λ p. omega (arith, length-decAll decSlot 40 128 (a .b .now) 5248, slot-past (a .o .0) (sym (s .is-slot .ensures) ∙ not-true _ (c .before .if1 .taken)) p)))
 
 -- src/read.rt:50:24
 slot-index-requires : tie.Need-slot-index-requires
@@ -43,9 +43,9 @@ returns-2 c = let i = c .before .slot-index in
     let s = c .before .before .before in
     let a = s .before .before .args in
     let y = sym (s .is-slot .ensures) ∙ not-false _ (c .before .before .if1 .left) in
-    let e = i .ensures .0 ∙ index-slot (a .o) y in
+    let e = i .ensures .0 ∙ index-slot (a .o .0) y in
     c .slot-at .ensures ∙ row-at decSlot 40 noSlot 128 (a .b .now) 5248 (i .result) (i .ensures .1)
-    ∙ ap (λ n. getD (slotsIn (a .b .now)) n noSlot) e ∙ sym (slotAt-pos (slotsIn (a .b .now)) (a .o) (λ z. omega (arith, z, slot-some (a .o) y .0)))
+    ∙ ap (λ n. getD (slotsIn (a .b .now)) n noSlot) e ∙ sym (slotAt-pos (slotsIn (a .b .now)) (a .o .0) (λ z. omega (arith, z, slot-some (a .o .0) y .0)))
 
 pub slot-at-spec : {M : Type 1} → statement M
 slot-at-spec =

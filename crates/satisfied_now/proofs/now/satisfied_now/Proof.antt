@@ -18,7 +18,7 @@ returns : tie.Need-returns
 unfolding satisfiedNow
 returns c =
     let a = c .before .before .before .before .args in
-    c .satisfied-as .ensures ∙ ap (λ (u : ThreadOption). satisfiedBy u (decBlock (a .b .now)) (decAll num 4 (a .n) (a .list .now) 0) (a .all) (a .tick)) (c .before .current .ensures)
+    c .satisfied-as .ensures ∙ ap (λ (u : ThreadOption). satisfiedBy u (decBlock (a .b .now)) (decAll num 4 (a .n) (a .list .now) 0) (a .all) (a .tick .0)) (c .before .current .ensures)
 
 pub satisfied-now-spec : {M : Type 1} → statement M
 satisfied-now-spec = tie.close (tie.spec current-requires satisfied-as-requires returns)

@@ -127,7 +127,7 @@ returns c k s =
     let a = c .before .before .before .before .before .before .before .before .before .before .before .before .before .before .before .before .before .before .before .before .before .before .args in
     let n : length (a .ts) ≡ 32 = omega (arith, c .before .before .before .before .before .before .before .before .before .before .before .before .before .before .before .before .before .before .before .before .before .before .good) in
     rw (c .flipped .ensures, c .before .switches .ensures, c .before .before .unless2 .ensures, c .before .before .before .unless .ensures)
-    (choose-is (turning k (a .current) (a .relief)) s (a .ts) (a .tick) n (c .before .before .before .before .before .before .before .before .before .before .before .before .before .before .before .before .before .before .before .before .before .place-of .result) (c .before .before .before .before .before .before .before .before .before .before .before .before .before .before .before .before .before .place-of2 .result) (c .before .before .before .before .before .before .before .before .before .before .before .place-of3 .result)
+    (choose-is (turning k (a .current) (a .relief)) s (a .ts) (a .tick .0) n (c .before .before .before .before .before .before .before .before .before .before .before .before .before .before .before .before .before .before .before .before .before .place-of .result) (c .before .before .before .before .before .before .before .before .before .before .before .before .before .before .before .before .before .place-of2 .result) (c .before .before .before .before .before .before .before .before .before .before .before .place-of3 .result)
     (c .before .before .before .before .before .before .before .before .before .before .before .before .before .before .before .before .before .before .before .mark-waited .result) (c .before .before .before .before .before .before .before .before .before .before .before .before .before .before .before .begin-run .result) (c .before .before .before .before .before .before .before .before .before .begin-run2 .result) (c .before .before .before .before .before .before .leave-core .result) (c .before .before .before .before .take-core .result)
     (c .before .before .before .before .before .before .before .before .before .before .before .before .before .before .before .before .before .before .pick-next .result) (c .before .before .before .before .before .before .before .before .before .before .before .before .chosen .result) (c .before .before .before .before .before .before .before .before .before .before .before .before .before .starving .result) (c .before .before .before .before .before .before .before .before .stays .result)
     (c .before .before .before .before .before .before .before .before .before .before .before .before .before .before .before .before .before .before .before .before .before .place-of .ensures .0) (c .before .before .before .before .before .before .before .before .before .before .before .before .before .before .before .before .before .before .before .mark-waited .ensures) (c .before .before .before .before .before .before .before .before .before .before .before .before .before .before .before .before .before .before .pick-next .ensures)

@@ -6,7 +6,7 @@ use Rattle.scheduler.proofs.run.starves.Statement.{statement}
 use Rattle.scheduler.proofs.run.starves.Tie as tie
 
 returns : tie.Need-returns
-returns c = let e : c .before .before .args .tick - c .before .before .args .since .0 ≡ 0 = omega arith in rw e
+returns c = let e : c .before .before .args .tick .0 - c .before .before .args .since .0 ≡ 0 = omega arith in rw e
 
 returns-2 : tie.Need-returns-2
 returns-2 c = search needs

@@ -61,11 +61,11 @@ head-of-requires c κs = search needs
 unlink-requires : tie.Need-unlink-requires Inv-loop μ-loop
 unlink-requires c κs = search needs
 
-add-put-slot : tie.Need-add-put-slot Inv-loop μ-loop
-add-put-slot c = search needs
+add-t33 : tie.Need-add-t33 Inv-loop μ-loop
+add-t33 c = search needs
 
-cast-put-slot : tie.Need-cast-put-slot Inv-loop μ-loop
-cast-put-slot c = search needs
+cast-t34 : tie.Need-cast-t34 Inv-loop μ-loop
+cast-t34 c = search needs
 
 headed-requires : tie.Need-headed-requires Inv-loop μ-loop
 headed-requires c κs = search needs
@@ -138,8 +138,8 @@ drop-records-spec =
     slot-at-requires
     head-of-requires
     unlink-requires
-    add-put-slot
-    cast-put-slot
+    add-t33
+    cast-t34
     headed-requires
     put-slot-requires
     add-i

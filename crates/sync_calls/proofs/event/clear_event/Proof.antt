@@ -19,8 +19,8 @@ abbrev after : Kernel → ℕ → Kernel
 after k o = withObjects k (sig.clearEvent (k .objects) o)
 
 -- src/event.rt:104:9
-open-requires : tie.Need-open-requires
-open-requires c κs = search needs
+resolve-requires : tie.Need-resolve-requires
+resolve-requires c κs = search needs
 
 -- src/event.rt:106:9
 refused-requires : tie.Need-refused-requires
@@ -33,7 +33,7 @@ same-length c = search needs
 -- src/event.rt:106:9
 returns : tie.Need-returns
 returns c = let b = c .before .before .before .before .before .before .before .before .args .block .now in
-    refused-call b (c .before .before .before .before .before .before .before .before .args .r .r0) _ (c .before .before .before .before .before .«open» .result) (c .before .before .before .before .before .«open» .ensures .0) (clearEvent (decBlock b) (c .before .before .before .before .before .before .before .before .args .r)) (clearEvent-finding (decBlock b) (c .before .before .before .before .before .before .before .before .args .r)) (c .before .if1 .taken) _ (c .refused .ensures)
+    refused-call b (c .before .before .before .before .before .before .before .before .args .r .r0) _ (c .before .before .before .before .before .resolve .result) (c .before .before .before .before .before .resolve .ensures .0) (clearEvent (decBlock b) (c .before .before .before .before .before .before .before .before .args .r)) (clearEvent-finding (decBlock b) (c .before .before .before .before .before .before .before .before .args .r)) (c .before .if1 .taken) _ (c .refused .ensures)
 
 -- src/event.rt:110:9
 answers-requires : tie.Need-answers-requires
@@ -47,14 +47,14 @@ same-length-2 c = search needs
 returns-2 : tie.Need-returns-2
 unfolding clearEvent
 returns-2 c = let b = c .before .before .before .before .before .before .before .before .before .before .before .args .block .now in
-    let p = c .before .before .before .before .before .before .before .before .«open» .ensures .0 in
+    let p = c .before .before .before .before .before .before .before .before .resolve .ensures .0 in
     let o = p .object (c .before .before .before .before .if1 .left) in
     let u : _≡_ {A = Served} (answers 16 (withObjects (decBlock b) (resolved (decBlock b) (c .before .before .before .before .before .before .before .before .before .before .before .args .r .r0) .store))) (clearEvent (decBlock b) (c .before .before .before .before .before .before .before .before .before .before .before .args .r)) = rw (eq-eqb _ 0 (sym o ∙ c .before .if2 .taken)) in
-    accepted-call b (c .before .before .before .before .before .before .before .before .before .before .before .args .r .r0) _ (c .before .before .before .before .before .before .before .before .«open» .result) p (clearEvent (decBlock b) (c .before .before .before .before .before .before .before .before .before .before .before .args .r)) (clearEvent-finding (decBlock b) (c .before .before .before .before .before .before .before .before .before .before .before .args .r)) (c .before .before .before .before .if1 .left) _ u _ (c .answers .ensures) _ (p .holds (c .before .before .before .before .if1 .left))
+    accepted-call b (c .before .before .before .before .before .before .before .before .before .before .before .args .r .r0) _ (c .before .before .before .before .before .before .before .before .resolve .result) p (clearEvent (decBlock b) (c .before .before .before .before .before .before .before .before .before .before .before .args .r)) (clearEvent-finding (decBlock b) (c .before .before .before .before .before .before .before .before .before .before .before .args .r)) (c .before .before .before .before .if1 .left) _ u _ (c .answers .ensures) _ (p .holds (c .before .before .before .before .if1 .left))
 
 -- src/event.rt:112:5
 put-cleared-requires : tie.Need-put-cleared-requires
-put-cleared-requires c κs = (search needs, c .before .before .before .before .before .before .before .before .«open» .ensures .1)
+put-cleared-requires c κs = (search needs, c .before .before .before .before .before .before .before .before .resolve .ensures .1)
 
 -- src/event.rt:113:5
 done-requires : tie.Need-done-requires
@@ -68,18 +68,18 @@ same-length-3 c = search needs
 returns-3 : tie.Need-returns-3
 unfolding clearEvent
 returns-3 c = let b = c .before .before .before .before .before .before .before .before .before .before .before .before .before .before .before .args .block .now in
-    let p = c .before .before .before .before .before .before .before .before .before .before .before .before .«open» .ensures .0 in
+    let p = c .before .before .before .before .before .before .before .before .before .before .before .before .resolve .ensures .0 in
     let k = opened-state b (c .before .before .before .before .before .before .before .before .before .before .before .before .before .before .before .pre .1) (c .before .before .before .before .before .before .before .before .before .before .before .before .before .before .before .args .r .r0) _ _ p (c .before .before .before .before .before .before .before .before .if1 .left) in
     let o = p .object (c .before .before .before .before .before .before .before .before .if1 .left) in
-    let u : _≡_ {A = Served} (done (after (decBlock (c .before .before .before .before .before .before .before .before .before .before .before .before .«open» .last .0)) (c .before .before .before .before .before .before .before .before .before .before .before .before .«open» .result .object .0))) (clearEvent (decBlock b) (c .before .before .before .before .before .before .before .before .before .before .before .before .before .before .before .args .r)) =
+    let u : _≡_ {A = Served} (done (after (decBlock (c .before .before .before .before .before .before .before .before .before .before .before .before .resolve .last .0)) (c .before .before .before .before .before .before .before .before .before .before .before .before .resolve .result .object .0))) (clearEvent (decBlock b) (c .before .before .before .before .before .before .before .before .before .before .before .before .before .before .before .args .r)) =
     (λ i. done (after (k i) (o i))) ∙ rw (ne-eqb _ 0 (λ z. c .before .before .before .before .before .if2 .left (o ∙ z))) in
-    accepted-call b (c .before .before .before .before .before .before .before .before .before .before .before .before .before .before .before .args .r .r0) _ (c .before .before .before .before .before .before .before .before .before .before .before .before .«open» .result) p (clearEvent (decBlock b) (c .before .before .before .before .before .before .before .before .before .before .before .before .before .before .before .args .r)) (clearEvent-finding (decBlock b) (c .before .before .before .before .before .before .before .before .before .before .before .before .before .before .before .args .r)) (c .before .before .before .before .before .before .before .before .if1 .left) _ u _ (c .done .ensures) _ (c .before .before .before .put-cleared .ensures)
+    accepted-call b (c .before .before .before .before .before .before .before .before .before .before .before .before .before .before .before .args .r .r0) _ (c .before .before .before .before .before .before .before .before .before .before .before .before .resolve .result) p (clearEvent (decBlock b) (c .before .before .before .before .before .before .before .before .before .before .before .before .before .before .before .args .r)) (clearEvent-finding (decBlock b) (c .before .before .before .before .before .before .before .before .before .before .before .before .before .before .before .args .r)) (c .before .before .before .before .before .before .before .before .if1 .left) _ u _ (c .done .ensures) _ (c .before .before .before .put-cleared .ensures)
 
 pub clear-event-spec : {M : Type 1} → statement M
 clear-event-spec =
     tie.close
     (tie.spec
-    open-requires
+    resolve-requires
     refused-requires
     same-length
     returns

@@ -18,7 +18,7 @@ use Rattle.sync_calls.proofs.event.waited_sync.Statement.{statement}
 use Rattle.sync_calls.proofs.event.waited_sync.Tie as tie
 
 abbrev Inv-loop : tie.InvT-loop
-Inv-loop block o i₀ i = (i ≤ 32) × (waitedSync (drop i (threadsIn block)) o ≡ waitedSync (threadsIn block) o)
+Inv-loop block o i₀ i = (i ≤ 32) × (waitedSync (drop i (threadsIn block)) (o .0) ≡ waitedSync (threadsIn block) (o .0))
 
 abbrev μ-loop : tie.MeasureT-loop
 μ-loop block o i₀ i = 32 - i
@@ -40,7 +40,7 @@ returns : tie.Need-returns Inv-loop μ-loop
 unfolding waitedSync decBlock
 returns c = let b = c .before .before .before .before .before .before .args .block .now in
     let n : length (threadsIn b) ≡ 32 = length-decAll decThread 160 32 b 128 in
-    sym (any-step noThread (λ (t : Thread). waitsSync (t .status) and contains (ids (t .«wait_objects»)) (c .before .before .before .before .before .before .args .o)) (λ (z : List Thread). waitedSync z (c .before .before .before .before .before .before .args .o)) refl (λ x xs. refl) (threadsIn b) (c .before .before .before .before .loop .i) (omega (arith, n)) ∙ or-yes _ _ (sym (ap (λ (t : Thread). waitsSync (t .status) and contains (ids (t .«wait_objects»)) (c .before .before .before .before .before .before .args .o)) (c .before .before .thread-at .ensures)) ∙ sym (c .before .waits-on .ensures) ∙ c .if1 .taken)) ∙ c .before .before .before .before .loop .inv .1
+    sym (any-step noThread (λ (t : Thread). waitsSync (t .status) and contains (ids (t .«wait_objects»)) (c .before .before .before .before .before .before .args .o .0)) (λ (z : List Thread). waitedSync z (c .before .before .before .before .before .before .args .o .0)) refl (λ x xs. refl) (threadsIn b) (c .before .before .before .before .loop .i) (omega (arith, n)) ∙ or-yes _ _ (sym (ap (λ (t : Thread). waitsSync (t .status) and contains (ids (t .«wait_objects»)) (c .before .before .before .before .before .before .args .o .0)) (c .before .before .thread-at .ensures)) ∙ sym (c .before .waits-on .ensures) ∙ c .if1 .taken)) ∙ c .before .before .before .before .loop .inv .1
 
 -- src/event.rt:51:9
 add-i : tie.Need-add-i Inv-loop μ-loop
@@ -55,14 +55,14 @@ loop-again : tie.Need-loop-again Inv-loop μ-loop
 unfolding waitedSync decBlock
 loop-again c = let b = c .before .before .before .before .before .before .args .block .now in
     let n : length (threadsIn b) ≡ 32 = length-decAll decThread 160 32 b 128 in
-    (search needs, sym (any-step noThread (λ (t : Thread). waitsSync (t .status) and contains (ids (t .«wait_objects»)) (c .before .before .before .before .before .before .args .o)) (λ (z : List Thread). waitedSync z (c .before .before .before .before .before .before .args .o)) refl (λ x xs. refl) (threadsIn b) (c .before .before .before .before .loop .i) (omega (arith, n)) ∙ or-no _ _ (sym (ap (λ (t : Thread). waitsSync (t .status) and contains (ids (t .«wait_objects»)) (c .before .before .before .before .before .before .args .o)) (c .before .before .thread-at .ensures)) ∙ sym (c .before .waits-on .ensures) ∙ c .if1 .left)) ∙ c .before .before .before .before .loop .inv .1)
+    (search needs, sym (any-step noThread (λ (t : Thread). waitsSync (t .status) and contains (ids (t .«wait_objects»)) (c .before .before .before .before .before .before .args .o .0)) (λ (z : List Thread). waitedSync z (c .before .before .before .before .before .before .args .o .0)) refl (λ x xs. refl) (threadsIn b) (c .before .before .before .before .loop .i) (omega (arith, n)) ∙ or-no _ _ (sym (ap (λ (t : Thread). waitsSync (t .status) and contains (ids (t .«wait_objects»)) (c .before .before .before .before .before .before .args .o .0)) (c .before .before .thread-at .ensures)) ∙ sym (c .before .waits-on .ensures) ∙ c .if1 .left)) ∙ c .before .before .before .before .loop .inv .1)
 
 -- src/event.rt:41:1
 returns-2 : tie.Need-returns-2 Inv-loop μ-loop
 unfolding waitedSync decBlock
 returns-2 c = let b = c .before .before .before .args .block .now in
     let n : length (threadsIn b) ≡ 32 = length-decAll decThread 160 32 b 128 in
-    sym (any-end noThread (λ (t : Thread). waitsSync (t .status) and contains (ids (t .«wait_objects»)) (c .before .before .before .args .o)) (λ (z : List Thread). waitedSync z (c .before .before .before .args .o)) refl (λ x xs. refl) (threadsIn b) (c .before .loop .i) (omega (arith, n))) ∙ c .before .loop .inv .1
+    sym (any-end noThread (λ (t : Thread). waitsSync (t .status) and contains (ids (t .«wait_objects»)) (c .before .before .before .args .o .0)) (λ (z : List Thread). waitedSync z (c .before .before .before .args .o .0)) refl (λ x xs. refl) (threadsIn b) (c .before .loop .i) (omega (arith, n))) ∙ c .before .loop .inv .1
 
 pub waited-sync-spec : {M : Type 1} → statement M
 waited-sync-spec =

@@ -13,8 +13,8 @@ use Rattle.sync_calls.proofs.mutex.release_mutex.Statement.{statement}
 use Rattle.sync_calls.proofs.mutex.release_mutex.Tie as tie
 
 -- src/mutex.rt:100:9
-open-requires : tie.Need-open-requires
-open-requires c κs = search needs
+resolve-requires : tie.Need-resolve-requires
+resolve-requires c κs = search needs
 
 -- src/mutex.rt:102:9
 refused-requires : tie.Need-refused-requires
@@ -28,7 +28,7 @@ same-length c = search needs
 returns : tie.Need-returns
 unfolding releaseMutex
 returns c = let b = c .before .before .before .before .before .before .before .before .args .block .now in
-    refused-call b (c .before .before .before .before .before .before .before .before .args .r .r0) _ (c .before .before .before .before .before .«open» .result) (c .before .before .before .before .before .«open» .ensures .0) (releaseMutex (decBlock b) (c .before .before .before .before .before .before .before .before .args .r)) (releaseMutex-finding (decBlock b) (c .before .before .before .before .before .before .before .before .args .r)) (c .before .if1 .taken) _ (c .refused .ensures)
+    refused-call b (c .before .before .before .before .before .before .before .before .args .r .r0) _ (c .before .before .before .before .before .resolve .result) (c .before .before .before .before .before .resolve .ensures .0) (releaseMutex (decBlock b) (c .before .before .before .before .before .before .before .before .args .r)) (releaseMutex-finding (decBlock b) (c .before .before .before .before .before .before .before .before .args .r)) (c .before .if1 .taken) _ (c .refused .ensures)
 
 -- src/mutex.rt:105:9
 slot-at-requires : tie.Need-slot-at-requires
@@ -36,7 +36,7 @@ slot-at-requires c κs = search needs
 
 -- src/mutex.rt:107:5
 release-as-requires : tie.Need-release-as-requires
-release-as-requires c κs = (search needs, (c .before .before .before .before .before .before .before .before .«open» .ensures .1, c .before .slot-at .ensures))
+release-as-requires c κs = (search needs, (c .before .before .before .before .before .before .before .before .resolve .ensures .1, c .before .slot-at .ensures))
 
 -- src/mutex.rt:94:1
 same-length-2 : tie.Need-same-length-2
@@ -46,18 +46,18 @@ same-length-2 c = search needs
 returns-2 : tie.Need-returns-2
 unfolding releaseMutex
 returns-2 c = let b = c .before .before .before .before .before .before .before .before .before .before .before .before .before .before .args .block .now in
-    let p = c .before .before .before .before .before .before .before .before .before .before .before .«open» .ensures .0 in
+    let p = c .before .before .before .before .before .before .before .before .before .before .before .resolve .ensures .0 in
     let k = opened-state b (c .before .before .before .before .before .before .before .before .before .before .before .before .before .before .pre .1) (c .before .before .before .before .before .before .before .before .before .before .before .before .before .before .args .r .r0) _ _ p (c .before .before .before .before .before .before .before .if1 .left) in
     let o = p .object (c .before .before .before .before .before .before .before .if1 .left) in
     let y : c .before .before .before .before .slot-at .result .object ≡ objectAt (resolved (decBlock b) (c .before .before .before .before .before .before .before .before .before .before .before .before .before .before .args .r .r0) .store) (resolved (decBlock b) (c .before .before .before .before .before .before .before .before .before .before .before .before .before .before .args .r .r0) .object .0) = ap (λ (x : Slot). x .object) (c .before .before .before .before .slot-at .ensures) ∙ (λ i. objectAt (k i .objects) (o i)) in
-    let u : _≡_ {A = Served} (releaseMutexAs (c .before .before .before .before .slot-at .result .object) (decBlock (c .before .before .before .before .before .before .before .before .before .before .before .«open» .last .0)) (c .before .before .before .before .before .before .before .before .before .before .before .«open» .result .object .0)) (releaseMutex (decBlock b) (c .before .before .before .before .before .before .before .before .before .before .before .before .before .before .args .r)) = λ i. releaseMutexAs (y i) (k i) (o i) in
-    accepted-call b (c .before .before .before .before .before .before .before .before .before .before .before .before .before .before .args .r .r0) _ (c .before .before .before .before .before .before .before .before .before .before .before .«open» .result) p (releaseMutex (decBlock b) (c .before .before .before .before .before .before .before .before .before .before .before .before .before .before .args .r)) (releaseMutex-finding (decBlock b) (c .before .before .before .before .before .before .before .before .before .before .before .before .before .before .args .r)) (c .before .before .before .before .before .before .before .if1 .left) _ u _ (c .before .before .release-as .ensures .0) _ (c .before .before .release-as .ensures .1)
+    let u : _≡_ {A = Served} (releaseMutexAs (c .before .before .before .before .slot-at .result .object) (decBlock (c .before .before .before .before .before .before .before .before .before .before .before .resolve .last .0)) (c .before .before .before .before .before .before .before .before .before .before .before .resolve .result .object .0)) (releaseMutex (decBlock b) (c .before .before .before .before .before .before .before .before .before .before .before .before .before .before .args .r)) = λ i. releaseMutexAs (y i) (k i) (o i) in
+    accepted-call b (c .before .before .before .before .before .before .before .before .before .before .before .before .before .before .args .r .r0) _ (c .before .before .before .before .before .before .before .before .before .before .before .resolve .result) p (releaseMutex (decBlock b) (c .before .before .before .before .before .before .before .before .before .before .before .before .before .before .args .r)) (releaseMutex-finding (decBlock b) (c .before .before .before .before .before .before .before .before .before .before .before .before .before .before .args .r)) (c .before .before .before .before .before .before .before .if1 .left) _ u _ (c .before .before .release-as .ensures .0) _ (c .before .before .release-as .ensures .1)
 
 pub release-mutex-spec : {M : Type 1} → statement M
 release-mutex-spec =
     tie.close
     (tie.spec
-    open-requires
+    resolve-requires
     refused-requires
     same-length
     returns

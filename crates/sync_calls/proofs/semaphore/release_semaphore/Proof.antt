@@ -15,8 +15,8 @@ use Rattle.sync_calls.proofs.semaphore.release_semaphore.Statement.{sta
 use Rattle.sync_calls.proofs.semaphore.release_semaphore.Tie as tie
 
 -- src/semaphore.rt:123:9
-open-requires : tie.Need-open-requires
-open-requires c κs = search needs
+resolve-requires : tie.Need-resolve-requires
+resolve-requires c κs = search needs
 
 -- src/semaphore.rt:125:9
 refused-requires : tie.Need-refused-requires
@@ -30,7 +30,7 @@ same-length c = search needs
 returns : tie.Need-returns
 unfolding releaseSemaphore
 returns c = let b = c .before .before .before .before .before .before .before .before .args .block .now in
-    refused-semaphore b (c .before .before .before .before .before .before .before .before .pre .1) (c .before .before .before .before .before .before .before .before .args .r) _ (c .before .before .before .before .before .«open» .result) (c .before .before .before .before .before .«open» .ensures .0) (c .before .if1 .taken) _ (c .refused .ensures)
+    refused-semaphore b (c .before .before .before .before .before .before .before .before .pre .1) (c .before .before .before .before .before .before .before .before .args .r) _ (c .before .before .before .before .before .resolve .result) (c .before .before .before .before .before .resolve .ensures .0) (c .before .if1 .taken) _ (c .refused .ensures)
 
 -- src/semaphore.rt:128:9
 slot-at-requires : tie.Need-slot-at-requires
@@ -39,8 +39,8 @@ slot-at-requires c κs = search needs
 -- src/semaphore.rt:130:5
 release-as-requires : tie.Need-release-as-requires
 release-as-requires c κs = let b = c .before .before .before .before .before .before .before .before .before .before .before .args .block .now in
-    let p = c .before .before .before .before .before .before .before .before .«open» .ensures .0 in
-    (search needs, (c .before .before .before .before .before .before .before .before .«open» .ensures .1, (ap finding (opened-state b (c .before .before .before .before .before .before .before .before .before .before .before .pre .1) (c .before .before .before .before .before .before .before .before .before .before .before .args .r .r1) _ _ p (c .before .before .before .before .if1 .left)) ∙ sym (p .found) ∙ c .before .before .before .before .if1 .left, c .before .slot-at .ensures)))
+    let p = c .before .before .before .before .before .before .before .before .resolve .ensures .0 in
+    (search needs, (c .before .before .before .before .before .before .before .before .resolve .ensures .1, (ap finding (opened-state b (c .before .before .before .before .before .before .before .before .before .before .before .pre .1) (c .before .before .before .before .before .before .before .before .before .before .before .args .r .r1) _ _ p (c .before .before .before .before .if1 .left)) ∙ sym (p .found) ∙ c .before .before .before .before .if1 .left, c .before .slot-at .ensures)))
 
 -- src/semaphore.rt:117:1
 same-length-2 : tie.Need-same-length-2
@@ -50,21 +50,21 @@ same-length-2 c = search needs
 returns-2 : tie.Need-returns-2
 unfolding releaseSemaphore
 returns-2 c = let b = c .before .before .before .before .before .before .before .before .before .before .before .before .before .before .args .block .now in
-    let p = c .before .before .before .before .before .before .before .before .before .before .before .«open» .ensures .0 in
+    let p = c .before .before .before .before .before .before .before .before .before .before .before .resolve .ensures .0 in
     let k = opened-state b (c .before .before .before .before .before .before .before .before .before .before .before .before .before .before .pre .1) (c .before .before .before .before .before .before .before .before .before .before .before .before .before .before .args .r .r1) _ _ p (c .before .before .before .before .before .before .before .if1 .left) in
     let o = p .object (c .before .before .before .before .before .before .before .if1 .left) in
     let y : c .before .before .before .before .slot-at .result .object ≡ objectAt (resolved (decBlock b) (c .before .before .before .before .before .before .before .before .before .before .before .before .before .before .args .r .r1) .store) (resolved (decBlock b) (c .before .before .before .before .before .before .before .before .before .before .before .before .before .before .args .r .r1) .object .0) = ap (λ (x : Slot). x .object) (c .before .before .before .before .slot-at .ensures) ∙ (λ i. objectAt (k i .objects) (o i)) in
-    let u : _≡_ {A = Served} (releaseSemaphoreAs (c .before .before .before .before .slot-at .result .object) (decBlock (c .before .before .before .before .before .before .before .before .before .before .before .«open» .last .0)) (c .before .before .before .before .before .before .before .before .before .before .before .«open» .result .object .0) (c .before .before .before .before .before .before .before .before .before .before .before .before .before .before .args .r .r2)) (releaseSemaphore (decBlock b) (c .before .before .before .before .before .before .before .before .before .before .before .before .before .before .args .r)) = λ i. releaseSemaphoreAs (y i) (k i) (o i) (c .before .before .before .before .before .before .before .before .before .before .before .before .before .before .args .r .r2) in (
+    let u : _≡_ {A = Served} (releaseSemaphoreAs (c .before .before .before .before .slot-at .result .object) (decBlock (c .before .before .before .before .before .before .before .before .before .before .before .resolve .last .0)) (c .before .before .before .before .before .before .before .before .before .before .before .resolve .result .object .0) (c .before .before .before .before .before .before .before .before .before .before .before .before .before .before .args .r .r2)) (releaseSemaphore (decBlock b) (c .before .before .before .before .before .before .before .before .before .before .before .before .before .before .args .r)) = λ i. releaseSemaphoreAs (y i) (k i) (o i) (c .before .before .before .before .before .before .before .before .before .before .before .before .before .before .args .r .r2) in (
       c .before .before .release-as .ensures .0 ∙ ap outcome u,
-      c .before .before .release-as .ensures .1 ∙ ap (λ (w : Served). left w (c .before .before .before .before .before .before .before .before .before .before .before .«open» .last .0)) u
-          ∙ left-same (objectAt (resolved (decBlock b) (c .before .before .before .before .before .before .before .before .before .before .before .before .before .before .args .r .r1) .store) (resolved (decBlock b) (c .before .before .before .before .before .before .before .before .before .before .before .before .before .before .args .r .r1) .object .0)) (withObjects (decBlock b) (resolved (decBlock b) (c .before .before .before .before .before .before .before .before .before .before .before .before .before .before .args .r .r1) .store)) (resolved (decBlock b) (c .before .before .before .before .before .before .before .before .before .before .before .before .before .before .args .r .r1) .object .0) (c .before .before .before .before .before .before .before .before .before .before .before .before .before .before .args .r .r2) (c .before .before .before .before .before .before .before .before .before .before .before .«open» .last .0) b (sym (p .found) ∙ c .before .before .before .before .before .before .before .if1 .left) (λ s e. unmade b (c .before .before .before .before .before .before .before .before .before .before .before .before .before .before .pre .1) (c .before .before .before .before .before .before .before .before .before .before .before .before .before .before .args .r .r1) _ _ p (c .before .before .before .before .before .before .before .if1 .left) s e),
+      c .before .before .release-as .ensures .1 ∙ ap (λ (w : Served). left w (c .before .before .before .before .before .before .before .before .before .before .before .resolve .last .0)) u
+          ∙ left-same (objectAt (resolved (decBlock b) (c .before .before .before .before .before .before .before .before .before .before .before .before .before .before .args .r .r1) .store) (resolved (decBlock b) (c .before .before .before .before .before .before .before .before .before .before .before .before .before .before .args .r .r1) .object .0)) (withObjects (decBlock b) (resolved (decBlock b) (c .before .before .before .before .before .before .before .before .before .before .before .before .before .before .args .r .r1) .store)) (resolved (decBlock b) (c .before .before .before .before .before .before .before .before .before .before .before .before .before .before .args .r .r1) .object .0) (c .before .before .before .before .before .before .before .before .before .before .before .before .before .before .args .r .r2) (c .before .before .before .before .before .before .before .before .before .before .before .resolve .last .0) b (sym (p .found) ∙ c .before .before .before .before .before .before .before .if1 .left) (λ s e. unmade b (c .before .before .before .before .before .before .before .before .before .before .before .before .before .before .pre .1) (c .before .before .before .before .before .before .before .before .before .before .before .before .before .before .args .r .r1) _ _ p (c .before .before .before .before .before .before .before .if1 .left) s e),
     )
 
 pub release-semaphore-spec : {M : Type 1} → statement M
 release-semaphore-spec =
     tie.close
     (tie.spec
-    open-requires
+    resolve-requires
     refused-requires
     same-length
     returns

@@ -12,8 +12,8 @@ returns : tie.Need-returns
 returns c = rw (eq-eqb _ 0xFFFF8000 (c .before .if1 .taken)) (c .current .ensures)
 
 -- src/priority.rt:47:9
-object-of-requires : tie.Need-object-of-requires
-object-of-requires c κs = search needs
+resolve-requires : tie.Need-resolve-requires
+resolve-requires c κs = search needs
 
 -- src/priority.rt:48:9
 slot-at-requires : tie.Need-slot-at-requires
@@ -25,7 +25,7 @@ thread-named-requires c κs = search needs
 
 -- src/priority.rt:40:1
 returns-2 : tie.Need-returns-2
-returns-2 c = rw (ne-eqb _ 0xFFFF8000 (c .before .before .before .if1 .left), c .thread-named .ensures, c .before .slot-at .ensures, c .before .before .object-of .ensures)
+returns-2 c = rw (ne-eqb _ 0xFFFF8000 (c .before .before .before .if1 .left), c .thread-named .ensures, c .before .slot-at .ensures, c .before .before .resolve .ensures)
 
 pub resolve-thread-spec : {M : Type 1} → statement M
 resolve-thread-spec =
@@ -33,7 +33,7 @@ resolve-thread-spec =
     (tie.spec
     current-requires
     returns
-    object-of-requires
+    resolve-requires
     slot-at-requires
     thread-named-requires
     returns-2)

@@ -19,7 +19,7 @@ sleep-at-requires c κs = (c .before .before .before .before .before .pre .0, (c
 
 -- src/sleep.rt:80:1
 returns : tie.Need-returns
-returns c = rw (sleep-none (decBlock (c .before .before .before .args .block .now)) (c .before .before .before .args .time) (c .before .before .before .args .tick) (c .before .before .before .pre .1 .1 ∙ c .enum-told .given .1)) (holds _ (c .before .before .before .pre .1 .0))
+returns c = rw (sleep-none (decBlock (c .before .before .before .args .block .now)) (c .before .before .before .args .time) (c .before .before .before .args .tick .0) (c .before .before .before .pre .1 .1 ∙ c .enum-told .given .1)) (holds _ (c .before .before .before .pre .1 .0))
 
 -- src/sleep.rt:80:1
 same-length : tie.Need-same-length

@@ -34,7 +34,7 @@ same-length c = search needs
 
 -- src/sleep.rt:68:1
 returns : tie.Need-returns
-returns c = rw (c .before .before .before .before .enum-told .given .1, ap (λ (x : ThreadOption). runsSince x (decBlock (c .before .before .before .before .before .before .before .args .block .now)) (c .before .before .before .before .before .before .before .args .tick)) (c .before .before .before .before .before .before .before .pre .1 .1), c .before .before .put-running .ensures) (put-thread (holds _ (c .before .before .before .before .before .before .before .pre .1 .0)) _ _)
+returns c = rw (c .before .before .before .before .enum-told .given .1, ap (λ (x : ThreadOption). runsSince x (decBlock (c .before .before .before .before .before .before .before .args .block .now)) (c .before .before .before .before .before .before .before .args .tick .0)) (c .before .before .before .before .before .before .before .pre .1 .1), c .before .before .put-running .ensures) (put-thread (holds _ (c .before .before .before .before .before .before .before .pre .1 .0)) _ _)
 
 -- src/sleep.rt:68:1
 same-length-2 : tie.Need-same-length-2
@@ -42,7 +42,7 @@ same-length-2 c = search needs
 
 -- src/sleep.rt:68:1
 returns-2 : tie.Need-returns-2
-returns-2 c = rw (sleep-some (decBlock (c .before .before .before .before .before .before .before .before .before .args .block .now)) (c .before .before .before .before .before .before .before .before .before .args .c) (c .before .before .before .before .before .before .before .before .before .args .time) _ (c .before .before .before .before .before .before .before .before .before .args .tick) (c .before .before .before .before .before .before .before .before .before .pre .1 .1) (c .before .before .before .before .before .before .time .given .1), c .before .before .put-sleeping .ensures, c .before .before .before .saturating-add .ensures) (put-thread (holds _ (c .before .before .before .before .before .before .before .before .before .pre .1 .0)) _ _)
+returns-2 c = rw (sleep-some (decBlock (c .before .before .before .before .before .before .before .before .before .args .block .now)) (c .before .before .before .before .before .before .before .before .before .args .c) (c .before .before .before .before .before .before .before .before .before .args .time) _ (c .before .before .before .before .before .before .before .before .before .args .tick .0) (c .before .before .before .before .before .before .before .before .before .pre .1 .1) (c .before .before .before .before .before .before .time .given .1), c .before .before .put-sleeping .ensures, c .before .before .before .saturating-add .ensures) (put-thread (holds _ (c .before .before .before .before .before .before .before .before .before .pre .1 .0)) _ _)
 
 pub sleep-at-spec : {M : Type 1} → statement M
 sleep-at-spec =

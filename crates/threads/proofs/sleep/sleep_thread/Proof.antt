@@ -23,7 +23,7 @@ same-length c = search needs
 
 -- src/sleep.rt:100:9
 returns : tie.Need-returns
-returns c = let f = sleep-finding (c .before .before .before .before .before .args .block .now) (c .before .before .before .before .before .args .r) (c .before .before .before .before .before .args .tick) ∙ ap (foundOf false) (sym (c .before .before .out-of-handles .ensures) ∙ c .before .if1 .taken) in
+returns c = let f = sleep-finding (c .before .before .before .before .before .args .block .now) (c .before .before .before .before .before .args .r) (c .before .before .before .before .before .args .tick .0) ∙ ap (foundOf false) (sym (c .before .before .out-of-handles .ensures) ∙ c .before .if1 .taken) in
     (c .refused .ensures ∙ sym (outcome-found _ 8 f (λ w. omega (arith, w))), sym (left-found _ _ (λ w. omega (arith, w, f))))
 
 -- src/sleep.rt:102:35
@@ -53,7 +53,7 @@ same-length-2 c = search needs
 -- src/sleep.rt:93:1
 returns-2 : tie.Need-returns-2
 unfolding sleepThread
-returns-2 c = let f = sleep-finding (c .before .before .before .before .before .before .before .before .before .before .before .before .before .before .args .block .now) (c .before .before .before .before .before .before .before .before .before .before .before .before .before .before .args .r) (c .before .before .before .before .before .before .before .before .before .before .before .before .before .before .args .tick) ∙ ap (foundOf false) (sym (c .before .before .before .before .before .before .before .before .before .before .before .out-of-handles .ensures) ∙ c .before .before .before .before .before .before .before .before .before .before .if1 .left) in
+returns-2 c = let f = sleep-finding (c .before .before .before .before .before .before .before .before .before .before .before .before .before .before .args .block .now) (c .before .before .before .before .before .before .before .before .before .before .before .before .before .before .args .r) (c .before .before .before .before .before .before .before .before .before .before .before .before .before .before .args .tick .0) ∙ ap (foundOf false) (sym (c .before .before .before .before .before .before .before .before .before .before .before .out-of-handles .ensures) ∙ c .before .before .before .before .before .before .before .before .before .before .if1 .left) in
     (c .done .ensures ∙ sym (outcome-0 _ f), rw (c .before .before .before .before .before .before .before .sleep-ticks .ensures, c .before .before .before .before .before .before .before .before .pair .ensures) at (c .before .before .before .sleep-as .ensures .same) ∙ sym (left-0 _ _ f))
 
 pub sleep-thread-spec : {M : Type 1} → statement M

@@ -7,7 +7,7 @@ use Rattle.timer_calls.proofs.caught.catch_up_if.Tie as tie
 
 returns : tie.Need-returns
 returns c = let b = c .before .before .args .block .now in
-    (sym (none-due b (c .before .before .args .tick) (sym (c .before .before .pre .1 .1 .0) ∙ not-true (c .before .before .args .fires) (c .if1 .taken))), c .before .before .pre .1 .0)
+    (sym (none-due b (c .before .before .args .tick .0) (sym (c .before .before .pre .1 .1 .0) ∙ not-true (c .before .before .args .fires) (c .if1 .taken))), c .before .before .pre .1 .0)
 
 catch-up-requires : tie.Need-catch-up-requires
 catch-up-requires c κs = search needs

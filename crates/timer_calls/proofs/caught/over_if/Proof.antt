@@ -9,7 +9,7 @@ use Rattle.timer_calls.proofs.caught.over_if.Tie as tie
 
 returns : tie.Need-returns
 returns c = let b = c .before .before .args .block .now in
-    sym (ap (λ (k : Kernel). k .objects .overflow) (none-due b (c .before .before .args .tick) (sym (c .before .before .pre .1) ∙ not-true (c .before .before .args .fires) (c .if1 .taken))) ∙ down b .1)
+    sym (ap (λ (k : Kernel). k .objects .overflow) (none-due b (c .before .before .args .tick .0) (sym (c .before .before .pre .1) ∙ not-true (c .before .before .args .fires) (c .if1 .taken))) ∙ down b .1)
 
 over-requires : tie.Need-over-requires
 over-requires c κs = search needs

@@ -18,7 +18,7 @@ same-length c = search needs
 
 returns : tie.Need-returns
 returns c = let a = c .before .before .before .before .before .before .args in
-    let e = set-other (a .block .now) (c .before .before .before .before .before .before .pre .1) (a .o .0) (c .before .before .before .slot-at .result) (c .before .before .before .slot-at .ensures) (c .before .before .kind-number .result) (c .before .before .kind-number .ensures) (a .r) (a .tick) (c .before .if1 .taken) in
+    let e = set-other (a .block .now) (c .before .before .before .before .before .before .pre .1) (a .o .0) (c .before .before .before .slot-at .result) (c .before .before .before .slot-at .ensures) (c .before .before .kind-number .result) (c .before .before .kind-number .ensures) (a .r) (a .tick .0) (c .before .if1 .taken) in
     (c .answers .ensures ∙ e .0, e .1)
 
 set-by-requires : tie.Need-set-by-requires
@@ -35,7 +35,7 @@ same-length-2 c = search needs
 
 returns-2 : tie.Need-returns-2
 returns-2 c = let a = c .before .before .before .before .before .before .before .before .before .before .before .args in
-    let e = set-one (a .block .now) (c .before .before .before .before .before .before .before .before .before .before .before .pre .1) (a .o .0) (c .before .before .before .before .before .before .before .before .slot-at .result) (c .before .before .before .before .before .before .before .before .slot-at .ensures) (c .before .before .before .before .before .before .before .kind-number .result) (c .before .before .before .before .before .before .before .kind-number .ensures) (a .r) (a .tick) (c .before .before .before .before .before .before .if1 .left) (c .before .before .before .before .before .set-by .result) (c .before .before .before .before .before .set-by .ensures) in
+    let e = set-one (a .block .now) (c .before .before .before .before .before .before .before .before .before .before .before .pre .1) (a .o .0) (c .before .before .before .before .before .before .before .before .slot-at .result) (c .before .before .before .before .before .before .before .before .slot-at .ensures) (c .before .before .before .before .before .before .before .kind-number .result) (c .before .before .before .before .before .before .before .kind-number .ensures) (a .r) (a .tick .0) (c .before .before .before .before .before .before .if1 .left) (c .before .before .before .before .before .set-by .result) (c .before .before .before .before .before .set-by .ensures) in
     (c .done .ensures ∙ e .0, rw (c .before .before .before .content .ensures) (e .1))
 
 pub set-opened-spec : {M : Type 1} → statement M

@@ -18,7 +18,7 @@ same-length c = search needs
 returns : tie.Need-returns
 returns c = let a = c .before .before .before .before .before .before .before .before .args in
     let k = decBlock (a .block .now) in
-    refused-call (a .block .now) (a .r .r0) _ (c .before .before .before .before .before .open-caught .result) (c .before .before .before .before .before .open-caught .ensures .0) (setTimer k (a .r) (a .tick)) (setTimer-finding k (a .r) (a .tick)) (c .before .if1 .taken) _ (c .refused .ensures)
+    refused-call (a .block .now) (a .r .r0) _ (c .before .before .before .before .before .open-caught .result) (c .before .before .before .before .before .open-caught .ensures .0) (setTimer k (a .r) (a .tick .0)) (setTimer-finding k (a .r) (a .tick .0)) (c .before .if1 .taken) _ (c .refused .ensures)
 
 set-opened-requires : tie.Need-set-opened-requires
 set-opened-requires c κs = search needs
@@ -30,8 +30,8 @@ returns-2 : tie.Need-returns-2
 returns-2 c = let a = c .before .before .before .before .before .before .before .before .before .before .before .before .args in
     let k = decBlock (a .block .now) in
     let p = c .before .before .before .before .before .before .before .before .before .open-caught .ensures in
-    let u = set-is k (a .r) (a .tick) _ (p .1 .1 (c .before .before .before .before .before .if1 .left)) (c .before .before .before .before .before .before .before .before .before .open-caught .result .object .0) (p .0 .object (c .before .before .before .before .before .if1 .left)) in
-    accepted-call (a .block .now) (a .r .r0) _ (c .before .before .before .before .before .before .before .before .before .open-caught .result) (p .0) (setTimer k (a .r) (a .tick)) (setTimer-finding k (a .r) (a .tick)) (c .before .before .before .before .before .if1 .left) _ u _ (c .before .before .set-opened .ensures .0) _ (c .before .before .set-opened .ensures .1)
+    let u = set-is k (a .r) (a .tick .0) _ (p .1 .1 (c .before .before .before .before .before .if1 .left)) (c .before .before .before .before .before .before .before .before .before .open-caught .result .object .0) (p .0 .object (c .before .before .before .before .before .if1 .left)) in
+    accepted-call (a .block .now) (a .r .r0) _ (c .before .before .before .before .before .before .before .before .before .open-caught .result) (p .0) (setTimer k (a .r) (a .tick .0)) (setTimer-finding k (a .r) (a .tick .0)) (c .before .before .before .before .before .if1 .left) _ u _ (c .before .before .set-opened .ensures .0) _ (c .before .before .set-opened .ensures .1)
 
 pub set-timer-spec : {M : Type 1} → statement M
 set-timer-spec =

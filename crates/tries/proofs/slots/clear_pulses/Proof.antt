@@ -25,11 +25,11 @@ loop-holds c = (search needs, (c .before .pre .0, slots-none (c .before .args .b
 slot-at-requires : tie.Need-slot-at-requires Inv-loop μ-loop
 slot-at-requires c κs = search needs
 
-add-put-slot : tie.Need-add-put-slot Inv-loop μ-loop
-add-put-slot c = search needs
+add-t10 : tie.Need-add-t10 Inv-loop μ-loop
+add-t10 c = search needs
 
-cast-put-slot : tie.Need-cast-put-slot Inv-loop μ-loop
-cast-put-slot c = search needs
+cast-t11 : tie.Need-cast-t11 Inv-loop μ-loop
+cast-t11 c = search needs
 
 unpulsed-slot-requires : tie.Need-unpulsed-slot-requires Inv-loop μ-loop
 unpulsed-slot-requires c κs = search needs
@@ -76,8 +76,8 @@ clear-pulses-spec =
     μ-loop
     loop-holds
     slot-at-requires
-    add-put-slot
-    cast-put-slot
+    add-t10
+    cast-t11
     unpulsed-slot-requires
     put-slot-requires
     add-i

@@ -16,13 +16,13 @@ use Rattle.tries.proofs.slots.fire.Statement.{statement}
 use Rattle.tries.proofs.slots.fire.Tie as tie
 
 abbrev Inv-loop : tie.InvT-loop
-Inv-loop block₀ tick i₀ block i = (i ≤ 128) × ((length block ≡ 16384) × (SlotsTo block₀ (λ _. firedSlot tick) i block × (anyOver tick (drop i (before block₀)) ≡ anyOver tick (before block₀))))
+Inv-loop block₀ tick i₀ block i = (i ≤ 128) × ((length block ≡ 16384) × (SlotsTo block₀ (λ _. firedSlot (tick .0)) i block × (anyOver (tick .0) (drop i (before block₀)) ≡ anyOver (tick .0) (before block₀))))
 
 abbrev μ-loop : tie.MeasureT-loop
 μ-loop block₀ tick i₀ block i = 128 - i
 
 loop-holds : tie.Need-loop-holds Inv-loop μ-loop
-loop-holds c = (search needs, (c .before .pre .0, (slots-none (c .before .args .block .now) (λ _. firedSlot (c .before .args .tick)) (c .before .pre .0) (holds (c .before .args .block .now) (c .before .pre .1)), refl)))
+loop-holds c = (search needs, (c .before .pre .0, (slots-none (c .before .args .block .now) (λ _. firedSlot (c .before .args .tick .0)) (c .before .pre .0) (holds (c .before .args .block .now) (c .before .pre .1)), refl)))
 
 slot-at-requires : tie.Need-slot-at-requires Inv-loop μ-loop
 slot-at-requires c κs = search needs
@@ -42,14 +42,14 @@ returns c = let l = c .before .before .before .before .before .before .before .l
     let h : l .i < 128 = omega (arith, c .before .before .before .before .before .before .loop-test) in
     let g = l .inv .1 .1 in
     let old = c .before .before .before .before .slot-at .ensures ∙ slot-before s (l .i) (l .block) h (g .0 .rows) in
-    let w = over-hit (c .before .before .before .before .before .before .before .before .before .args .tick) (before s) (l .i) (g .1) (omega (arith, size-slots s)) (ap (λ (x : Slot). overOf (x .object) (c .before .before .before .before .before .before .before .before .before .args .tick)) (sym old) ∙ sym (c .before .slot-over .ensures) ∙ c .if2 .taken) in
+    let w = over-hit (c .before .before .before .before .before .before .before .before .before .args .tick .0) (before s) (l .i) (g .1) (omega (arith, size-slots s)) (ap (λ (x : Slot). overOf (x .object) (c .before .before .before .before .before .before .before .before .before .args .tick .0)) (sym old) ∙ sym (c .before .slot-over .ensures) ∙ c .if2 .taken) in
     (sym w, ((λ q. absurd (true≢false q)), (λ q. absurd (true≢false q))))
 
-add-put-slot : tie.Need-add-put-slot Inv-loop μ-loop
-add-put-slot c = search needs
+add-t13 : tie.Need-add-t13 Inv-loop μ-loop
+add-t13 c = search needs
 
-cast-put-slot : tie.Need-cast-put-slot Inv-loop μ-loop
-cast-put-slot c = search needs
+cast-t14 : tie.Need-cast-t14 Inv-loop μ-loop
+cast-t14 c = search needs
 
 fired-slot-requires : tie.Need-fired-slot-requires Inv-loop μ-loop
 fired-slot-requires c κs = search needs
@@ -66,7 +66,7 @@ loop-less c = search needs
 loop-again : tie.Need-loop-again Inv-loop μ-loop
 loop-again c = let l = c .before .before .before .before .before .loop in
     let s = c .before .before .before .before .before .before .before .args .block .now in
-    let t = c .before .before .before .before .before .before .before .args .tick in
+    let t = c .before .before .before .before .before .before .before .args .tick .0 in
     let f : ℕ → Slot → Slot = λ _. firedSlot t in
     let h : l .i < 128 = omega arith in
     let g = l .inv .1 .1 in
@@ -91,8 +91,8 @@ same-length-2 c = search needs
 returns-2 : tie.Need-returns-2 Inv-loop μ-loop
 returns-2 c = let l = c .before .loop in
     let s = c .before .before .before .args .block .now in
-    let none = over-end (c .before .before .before .args .tick) (before s) (l .i) (l .inv .1 .1 .1) (omega (arith, c .loop-test, size-slots s)) in
-    let w = fired-all s (c .before .before .before .pre .1) (c .before .before .before .args .tick) none (l .block) (l .i) (omega (arith, c .loop-test)) (l .inv .1 .1 .0) in
+    let none = over-end (c .before .before .before .args .tick .0) (before s) (l .i) (l .inv .1 .1 .1) (omega (arith, c .loop-test, size-slots s)) in
+    let w = fired-all s (c .before .before .before .pre .1) (c .before .before .before .args .tick .0) none (l .block) (l .i) (omega (arith, c .loop-test)) (l .inv .1 .1 .0) in
     (sym none, ((λ _. w .0), (λ _. w .1)))
 
 pub fire-spec : {M : Type 1} → statement M
@@ -107,8 +107,8 @@ fire-spec =
     slot-over-requires
     same-length
     returns
-    add-put-slot
-    cast-put-slot
+    add-t13
+    cast-t14
     fired-slot-requires
     put-slot-requires
     add-i

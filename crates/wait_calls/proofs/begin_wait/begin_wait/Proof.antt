@@ -43,10 +43,10 @@ returns : tie.Need-returns
 returns c = let a = c .before .before .before .before .before .before .before .before .before .before .before .before .before .before .before .args in
     let b = a .block .now in
     let c0 : a .c < length (decBlock b .threads) = omega (arith, size-threads b, current-place b (c .before .before .before .before .before .before .before .before .before .before .before .before .before .before .before .pre .1 .0) (a .c) (c .before .before .before .before .before .before .before .before .before .before .before .before .before .before .before .pre .1 .1)) in
-    let w = c .before .before .before .before .before .before .before .before .before .waiting .ensures ∙ (λ i. waiting (c .before .before .before .before .before .before .before .before .before .before .before .before .thread-at .ensures i) (a .l) (a .n) (a .all) ((c .before .before .before .before .before .before .before .before .before .before .wake-tick .ensures ∙ ap (λ (z : TickOption). wakeTick z (a .tick)) (c .before .before .before .before .before .before .before .before .before .before .before .wait-time .ensures)) i)) in
+    let w = c .before .before .before .before .before .before .before .before .before .waiting .ensures ∙ (λ i. waiting (c .before .before .before .before .before .before .before .before .before .before .before .before .thread-at .ensures i) (a .l) (a .n) (a .all) ((c .before .before .before .before .before .before .before .before .before .before .wake-tick .ensures ∙ ap (λ (z : TickOption). wakeTick z (a .tick .0)) (c .before .before .before .before .before .before .before .before .before .before .before .wait-time .ensures)) i)) in
     let t = c .before .before .before .before .before .before .before .before .with-call .ensures ∙ ap (λ (u : Thread). withResult u (u .«wait_result») (a .call)) w in
     let g = put-thread (c .before .before .before .before .before .before .hold-list .ensures) (a .c) (c .before .before .before .before .before .before .before .before .with-call .result) in
-    c .before .before .put-thread .ensures ∙ g .same ∙ ap encBlock (begun-once (decBlock b) (a .c) (a .l) (a .n) (a .all) (a .nanos) (a .tick) (a .call) (c .before .before .before .before .before .before .before .before .before .before .before .before .before .before .before .pre .1 .1) c0 (c .before .before .before .before .before .before .before .before .with-call .result) t)
+    c .before .before .put-thread .ensures ∙ g .same ∙ ap encBlock (begun-once (decBlock b) (a .c) (a .l) (a .n) (a .all) (a .nanos .0) (a .tick .0) (a .call) (c .before .before .before .before .before .before .before .before .before .before .before .before .before .before .before .pre .1 .1) c0 (c .before .before .before .before .before .before .before .before .with-call .result) t)
 
 pub begin-wait-spec : {M : Type 1} → statement M
 begin-wait-spec =

@@ -32,11 +32,11 @@ returns c =
     let e = looked-all k (a .t2) (a .n) (l .l) (l .unknown) (l .i) (l .inv .1) m in
     (e .0, (e .1, n8))
 
-mul-open-object : tie.Need-mul-open-object Inv-loop μ-loop
-mul-open-object c = search needs
+mul-t14 : tie.Need-mul-t14 Inv-loop μ-loop
+mul-t14 c = search needs
 
-array-read-open-object : tie.Need-array-read-open-object Inv-loop μ-loop
-array-read-open-object c = search needs
+array-read-t11 : tie.Need-array-read-t11 Inv-loop μ-loop
+array-read-t11 c = search needs
 
 open-object-requires : tie.Need-open-object-requires Inv-loop μ-loop
 open-object-requires c κs = search needs
@@ -84,8 +84,8 @@ look-up-spec =
     loop-holds
     cast-if1
     returns
-    mul-open-object
-    array-read-open-object
+    mul-t14
+    array-read-t11
     open-object-requires
     either-requires
     mul-l

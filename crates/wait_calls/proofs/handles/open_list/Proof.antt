@@ -32,14 +32,14 @@ returns c =
     let hs = take (a .n) (a .t2) in
     open-end k hs (l .block) (l .l) (l .i) (l .inv .1 .1) (words-end (a .t2) (a .n) (l .i) (c .if1 .taken))
 
-mul-open : tie.Need-mul-open Inv-loop μ-loop
-mul-open c = search needs
+mul-t15 : tie.Need-mul-t15 Inv-loop μ-loop
+mul-t15 c = search needs
 
-array-read-open : tie.Need-array-read-open Inv-loop μ-loop
-array-read-open c = search needs
+array-read-t11 : tie.Need-array-read-t11 Inv-loop μ-loop
+array-read-t11 c = search needs
 
-open-requires : tie.Need-open-requires Inv-loop μ-loop
-open-requires c κs = (search needs, c .before .before .before .loop .inv .1 .1 .sound)
+resolve-requires : tie.Need-resolve-requires Inv-loop μ-loop
+resolve-requires c κs = (search needs, c .before .before .before .loop .inv .1 .1 .sound)
 
 same-length-2 : tie.Need-same-length-2 Inv-loop μ-loop
 same-length-2 c = search needs
@@ -55,8 +55,8 @@ returns-2 c =
     let h = getD (a .t2) (l .i) 0 in
     let room = c .before .before .before .before .before .before .before .before .before .before .before .pre .1 .1 .1 in
     let out = c .before .before .before .before .before .before .before .before .before .before .before .pre .1 .1 .0 in
-    let p = c .before .before .before .before .before .«open» .ensures in
-    open-unknown k hs (l .block) (l .l) (l .i) (l .inv .1 .1) room out h d _ (c .before .before .before .before .before .«open» .result) (p .0) (p .1) (c .if2 .taken)
+    let p = c .before .before .before .before .before .resolve .ensures in
+    open-unknown k hs (l .block) (l .l) (l .i) (l .inv .1 .1) room out h d _ (c .before .before .before .before .before .resolve .result) (p .0) (p .1) (c .if2 .taken)
 
 mul-l : tie.Need-mul-l Inv-loop μ-loop
 mul-l c = search needs
@@ -81,8 +81,8 @@ loop-again c =
     let h = getD (a .t2) (l .i) 0 in
     let room = c .before .before .before .before .before .before .before .before .before .before .before .pre .1 .1 .1 in
     let out = c .before .before .before .before .before .before .before .before .before .before .before .pre .1 .1 .0 in
-    let p = c .before .before .before .before .before .«open» .ensures in
-    (search needs, (search needs, open-more k hs (l .block) (l .l) (l .i) (l .inv .1 .1) room out h d _ (c .before .before .before .before .before .«open» .result) (p .0) (p .1) (c .if2 .left) (omega (arith, c .before .before .before .before .before .before .before .before .loop-test))))
+    let p = c .before .before .before .before .before .resolve .ensures in
+    (search needs, (search needs, open-more k hs (l .block) (l .l) (l .i) (l .inv .1 .1) room out h d _ (c .before .before .before .before .before .resolve .result) (p .0) (p .1) (c .if2 .left) (omega (arith, c .before .before .before .before .before .before .before .before .loop-test))))
 
 same-length-3 : tie.Need-same-length-3 Inv-loop μ-loop
 same-length-3 c = search needs
@@ -106,9 +106,9 @@ open-list-spec =
     cast-if1
     same-length
     returns
-    mul-open
-    array-read-open
-    open-requires
+    mul-t15
+    array-read-t11
+    resolve-requires
     same-length-2
     returns-2
     mul-l

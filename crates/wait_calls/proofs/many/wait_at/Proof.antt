@@ -1,5 +1,4 @@
-use mathlib.Core.Path.{refl}
-use borrow.Author.Tests.{eq-eqb, ne-eqb}
+use mathlib.Core.Path.{refl, sym, _∙_}
 use Rattle.types.specs.declared.thread.WaitSyscall.the-variants.{WaitSynchronizationN}
 use Rattle.block.specs.Block.{decBlock}
 use Rattle.svc.specs.Call.{answers}
@@ -13,16 +12,19 @@ use Rattle.wait_calls.proofs.many.wait_at.Tie as tie
 enum-told : tie.Need-enum-told
 enum-told c = search needs
 
+is-zero-requires : tie.Need-is-zero-requires
+is-zero-requires c κs = search needs
+
 answers-requires : tie.Need-answers-requires
 answers-requires c κs = search needs
 
 returns : tie.Need-returns
 returns c =
-    let a = c .before .before .before .before .before .args in
+    let a = c .before .before .before .before .before .before .args in
     let b = a .block .now in
     let k = decBlock b in
-    let e = stays b (c .before .before .before .before .before .pre .1 .0) (c .before .before .before .before .before .pre .1 .1 .0) _ (answers 17 k) (answers 17 k) refl refl (c .answers .ensures) in
-    rw (c .before .before .enum-told .given .1, eq-eqb _ 0 (c .before .if1 .taken)) (e .0, λ z. e .1)
+    let e = stays b (c .before .before .before .before .before .before .pre .1 .0) (c .before .before .before .before .before .before .pre .1 .1 .0) _ (answers 17 k) (answers 17 k) refl refl (c .answers .ensures) in
+    rw (c .before .before .before .enum-told .given .1, sym (c .before .before .is-zero .ensures) ∙ c .before .if1 .taken) (e .0, λ z. e .1)
 
 begin-wait-requires : tie.Need-begin-wait-requires
 begin-wait-requires c κs = search needs
@@ -41,12 +43,12 @@ same-length c = search needs
 
 returns-2 : tie.Need-returns-2
 returns-2 c =
-    let a = c .before .before .before .before .before .before .before .before .before .args in
+    let a = c .before .before .before .before .before .before .before .before .before .before .args in
     let b = a .block .now in
     let k = decBlock b in
-    let v = waitOnIn k (a .c) (a .l) (a .n) (a .all) (a .nanos) (a .tick) WaitSynchronizationN in
-    let e = leaves b _ _ v v refl (begun-none b (c .before .before .before .before .before .before .before .before .before .pre .1 .1 .0) (a .c) (a .l) (a .n) (a .all) (a .nanos) (a .tick) WaitSynchronizationN (c .before .before .before .before .before .before .before .before .before .pre .1 .1 .1)) (c .silent .ensures) (c .before .before .before .begin-wait .ensures) in
-    rw (c .before .before .before .before .before .before .enum-told .given .1, ne-eqb _ 0 (c .before .before .before .before .before .if1 .left)) (e .0, λ z. e .1)
+    let v = waitOnIn k (a .c) (a .l) (a .n) (a .all) (a .nanos .0) (a .tick .0) WaitSynchronizationN in
+    let e = leaves b _ _ v v refl (begun-none b (c .before .before .before .before .before .before .before .before .before .before .pre .1 .1 .0) (a .c) (a .l) (a .n) (a .all) (a .nanos .0) (a .tick .0) WaitSynchronizationN (c .before .before .before .before .before .before .before .before .before .before .pre .1 .1 .1)) (c .silent .ensures) (c .before .before .before .begin-wait .ensures) in
+    rw (c .before .before .before .before .before .before .before .enum-told .given .1, sym (c .before .before .before .before .before .before .is-zero .ensures) ∙ c .before .before .before .before .before .if1 .left) (e .0, λ z. e .1)
 
 same-length-2 : tie.Need-same-length-2
 same-length-2 c = search needs
@@ -59,6 +61,7 @@ wait-at-spec =
     tie.close
     (tie.spec
     enum-told
+    is-zero-requires
     answers-requires
     returns
     begin-wait-requires

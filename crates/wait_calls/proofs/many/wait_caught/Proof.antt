@@ -38,8 +38,8 @@ returns c =
     let g = c .before .before .before .before .before .before .before .before .before .before .before .pre .1 .1 in
     let d = c .before .before .before .before .before .before .before .before .catch-up-if .ensures .0 in
     let m = c .before .before .before .before .before .before .before .before .catch-up-if .last .0 in
-    let f = ap (λ (i : ℕ). waitIn (decBlock m) (a .l) true i (a .r) (a .tick)) (c .before .before .before .before .before .least-of .ensures) ∙ known-is b (c .before .before .before .before .before .before .before .before .before .before .before .pre .1 .0) (a .r) (a .words) (a .n) (a .l) (a .known) (a .fires) (a .tick) g m d (c .before .before .before .before .if1 .taken) in
-    (c .before .before .wait-list .ensures .0 ∙ ap outcome f, settles b m _ _ _ f (c .before .before .wait-list .ensures .1) (λ q. (q .0, same-block b (c .before .before .before .before .before .before .before .before .before .before .before .pre .1 .0) (a .r) (a .words) (a .n) (a .l) (a .known) (a .fires) (a .tick) g m d (c .before .before .before .before .before .before .before .before .catch-up-if .ensures .1) (q .1 .0))))
+    let f = ap (λ (i : ℕ). waitIn (decBlock m) (a .l) true i (a .r) (a .tick .0)) (c .before .before .before .before .before .least-of .ensures) ∙ known-is b (c .before .before .before .before .before .before .before .before .before .before .before .pre .1 .0) (a .r) (a .words) (a .n) (a .l) (a .known) (a .fires) (a .tick .0) g m d (c .before .before .before .before .if1 .taken) in
+    (c .before .before .wait-list .ensures .0 ∙ ap outcome f, settles b m _ _ _ f (c .before .before .wait-list .ensures .1) (λ q. (q .0, same-block b (c .before .before .before .before .before .before .before .before .before .before .before .pre .1 .0) (a .r) (a .words) (a .n) (a .l) (a .known) (a .fires) (a .tick .0) g m d (c .before .before .before .before .before .before .before .before .catch-up-if .ensures .1) (q .1 .0))))
 
 open-list-requires : tie.Need-open-list-requires
 open-list-requires c κs =
@@ -48,7 +48,7 @@ open-list-requires c κs =
     let k = decBlock b in
     let g = c .before .before .before .before .before .before .before .before .pre .1 .1 in
     let d = c .before .before .before .before .before .catch-up-if .ensures .0 in
-    (search needs, (c .before .before .before .before .before .catch-up-if .ensures .1, (same-handles _ k _ d (g .handles), room-caught b (c .before .before .before .before .before .before .before .before .pre .1 .0) (a .r) (a .words) (a .n) (a .l) (a .known) (a .fires) (a .tick) g _ d)))
+    (search needs, (c .before .before .before .before .before .catch-up-if .ensures .1, (same-handles _ k _ d (g .handles), room-caught b (c .before .before .before .before .before .before .before .before .pre .1 .0) (a .r) (a .words) (a .n) (a .l) (a .known) (a .fires) (a .tick .0) g _ d)))
 
 wait-list-requires-2 : tie.Need-wait-list-requires-2
 wait-list-requires-2 c κs =
@@ -73,7 +73,7 @@ returns-2 c =
     let m = c .before .before .before .before .before .before .before .before .before .before .before .before .before .catch-up-if .last .0 in
     let e = c .before .before .before .before .before .before .before .open-list .last .0 in
     let x = c .before .before .before .before .before .before .before .open-list .result in
-    let f = ap (λ (i : ℕ). waitIn (decBlock e) (x .objects) (x .known) i (a .r) (a .tick)) (c .before .before .before .before .before .before .before .before .before .before .least-of .ensures) ∙ opened-is b (c .before .before .before .before .before .before .before .before .before .before .before .before .before .before .before .before .pre .1 .0) (a .r) (a .words) (a .n) (a .l) (a .known) (a .fires) (a .tick) g m d e x (c .before .before .before .before .before .before .before .open-list .ensures) in
+    let f = ap (λ (i : ℕ). waitIn (decBlock e) (x .objects) (x .known) i (a .r) (a .tick .0)) (c .before .before .before .before .before .before .before .before .before .before .least-of .ensures) ∙ opened-is b (c .before .before .before .before .before .before .before .before .before .before .before .before .before .before .before .before .pre .1 .0) (a .r) (a .words) (a .n) (a .l) (a .known) (a .fires) (a .tick .0) g m d e x (c .before .before .before .before .before .before .before .open-list .ensures) in
     (c .before .before .wait-list2 .ensures .0 ∙ ap outcome f, settles b e _ _ _ f (c .before .before .wait-list2 .ensures .1) (λ q. false-true (sym (c .before .before .before .before .before .before .before .before .before .if1 .left) ∙ q .1 .1)))
 
 pub wait-caught-spec : {M : Type 1} → statement M

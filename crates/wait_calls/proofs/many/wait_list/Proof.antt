@@ -26,7 +26,7 @@ returns c =
     let a = c .before .before .before .args in
     let b = a .block .now in
     let k = decBlock b in
-    let e = stays b (c .before .before .before .pre .1 .0) (c .before .before .before .pre .1 .1) _ (answers 16 k) _ refl (unknown k (a .l) (a .known) (a .n) (a .r) (a .tick) (not-true _ (c .before .if1 .taken))) (c .answers .ensures) in
+    let e = stays b (c .before .before .before .pre .1 .0) (c .before .before .before .pre .1 .1) _ (answers 16 k) _ refl (unknown k (a .l) (a .known) (a .n) (a .r) (a .tick .0) (not-true _ (c .before .if1 .taken))) (c .answers .ensures) in
     (e .0, λ z. e .1)
 
 current-requires : tie.Need-current-requires
@@ -46,7 +46,7 @@ returns-2 c =
     let a = c .before .before .before .before .before .before .before .args in
     let b = a .block .now in
     let k = decBlock b in
-    let e = stays b (c .before .before .before .before .before .before .before .pre .1 .0) (c .before .before .before .before .before .before .before .pre .1 .1) _ (done k) _ refl (nobody k (a .l) (a .known) (a .n) (a .r) (a .tick) (not-false _ (c .before .before .before .before .before .if1 .left)) (sym (c .before .before .thread-flag .ensures ∙ ap threadFlag (c .before .before .before .current .ensures)) ∙ c .before .if2 .taken)) (c .done .ensures) in
+    let e = stays b (c .before .before .before .before .before .before .before .pre .1 .0) (c .before .before .before .before .before .before .before .pre .1 .1) _ (done k) _ refl (nobody k (a .l) (a .known) (a .n) (a .r) (a .tick .0) (not-false _ (c .before .before .before .before .before .if1 .left)) (sym (c .before .before .thread-flag .ensures ∙ ap threadFlag (c .before .before .before .current .ensures)) ∙ c .before .if2 .taken)) (c .done .ensures) in
     (e .0, λ z. e .1)
 
 thread-value-requires : tie.Need-thread-value-requires
@@ -71,8 +71,8 @@ returns-3 c =
     let k = decBlock b in
     let all : Bool = not (eqb (a .r .r3) 0) in
     let who = c .before .before .before .before .before .before .before .before .thread-value .ensures ∙ ap threadValue (c .before .before .before .before .before .before .before .before .before .before .before .current .ensures) in
-    let f = (λ i. takeIn ((c .before .before .before .before .satisfied-at .ensures ∙ (λ j. satisfiedAt (k .threads) (k .objects) (who j) all (take (a .n) (ids (a .l))))) i) k (who i) (a .l) (a .n) all (c .before .before .before .before .before .before .pair .ensures i) (a .tick))
-    ∙ waits k (a .l) (a .known) (a .n) (a .r) (a .tick) (not-false _ (c .before .before .before .before .before .before .before .before .before .before .before .before .before .if1 .left)) (λ z. c .before .before .before .before .before .before .before .before .before .if2 .left (c .before .before .before .before .before .before .before .before .before .before .thread-flag .ensures ∙ ap threadFlag (c .before .before .before .before .before .before .before .before .before .before .before .current .ensures) ∙ z)) in
+    let f = (λ i. takeIn ((c .before .before .before .before .satisfied-at .ensures ∙ (λ j. satisfiedAt (k .threads) (k .objects) (who j) all (take (a .n) (ids (a .l))))) i) k (who i) (a .l) (a .n) all (c .before .before .before .before .before .before .pair .ensures i) (a .tick .0))
+    ∙ waits k (a .l) (a .known) (a .n) (a .r) (a .tick .0) (not-false _ (c .before .before .before .before .before .before .before .before .before .before .before .before .before .if1 .left)) (λ z. c .before .before .before .before .before .before .before .before .before .if2 .left (c .before .before .before .before .before .before .before .before .before .before .thread-flag .ensures ∙ ap threadFlag (c .before .before .before .before .before .before .before .before .before .before .before .current .ensures) ∙ z)) in
     (c .before .before .wait-at .ensures .0 ∙ ap outcome f, settles b b _ _ _ f (c .before .before .wait-at .ensures .1) (λ e. (e, refl)))
 
 pub wait-list-spec : {M : Type 1} → statement M

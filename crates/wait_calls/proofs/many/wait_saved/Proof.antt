@@ -33,7 +33,7 @@ returns c =
     let a = c .before .before .before .before .before .before .before .before .before .before .before .before .before .before .before .before .args in
     let b = a .block .now in
     let k = decBlock b in
-    let v = waitSynchronizationN k (a .r) (take (a .n) (a .words)) (a .tick) in
+    let v = waitSynchronizationN k (a .r) (take (a .n) (a .words)) (a .tick .0) in
     let f = sym (found-is v) ∙ ap (λ (o : Outcome). o .found) (sym (c .before .before .before .before .before .before .before .before .before .wait-caught .ensures .0)) in
     let kept = copied _ (replicate 16384 0) b (c .before .before .before .before .before .before .before .before .before .before .before .before .copy .ensures) (search needs) in
     let back = copied _ (c .before .before .before .before .before .before .before .before .before .wait-caught .last .0) (c .before .before .before .before .before .before .before .before .before .before .before .before .copy .last .0) (c .before .before .copy2 .ensures) (search needs) in
@@ -47,7 +47,7 @@ returns-2 c =
     let a = c .before .before .before .before .before .before .before .before .before .before .before .args in
     let b = a .block .now in
     let k = decBlock b in
-    let v = waitSynchronizationN k (a .r) (take (a .n) (a .words)) (a .tick) in
+    let v = waitSynchronizationN k (a .r) (take (a .n) (a .words)) (a .tick .0) in
     let f = sym (found-is v) ∙ ap (λ (o : Outcome). o .found) (sym (c .before .before .before .before .wait-caught .ensures .0)) in
     (c .before .before .before .before .wait-caught .ensures .0, c .before .before .before .before .wait-caught .ensures .1 (inr (f ∙ c .if1 .left)))
 

@@ -42,9 +42,9 @@ returns c =
     let k = decBlock b in
     let x = c .before .before .before .before .before .before .before .before .before .look-up .ensures in
     let z = x .1 .1 in
-    let w = full-before b (c .before .before .before .before .before .before .before .before .before .before .before .before .pre .1) (a .r) (a .words) (a .n) (a .tick) z (c .before .before .before .before .before .before .before .before .before .look-up .result .known) (c .before .before .before .before .before .before .full-if .result) (x .1 .0) (c .before .before .before .before .before .before .full-if .ensures) in
-    let f = c .before .before .found-before .ensures ∙ ap (λ (t : Bool). foundOf t (caughtUp k (a .tick) .objects .overflow or outOfHandles? k)) w in
-    refuses b _ (c .before .before .found-before .result) _ (c .refused .ensures) (call-refused b (c .before .before .before .before .before .before .before .before .before .before .before .before .pre .1) (a .r) (a .words) (a .n) (a .tick) z (λ e. c .before .if1 .taken (f ∙ e)) ∙ sym f) (c .before .if1 .taken)
+    let w = full-before b (c .before .before .before .before .before .before .before .before .before .before .before .before .pre .1) (a .r) (a .words) (a .n) (a .tick .0) z (c .before .before .before .before .before .before .before .before .before .look-up .result .known) (c .before .before .before .before .before .before .full-if .result) (x .1 .0) (c .before .before .before .before .before .before .full-if .ensures) in
+    let f = c .before .before .found-before .ensures ∙ ap (λ (t : Bool). foundOf t (caughtUp k (a .tick .0) .objects .overflow or outOfHandles? k)) w in
+    refuses b _ (c .before .before .found-before .result) _ (c .refused .ensures) (call-refused b (c .before .before .before .before .before .before .before .before .before .before .before .before .pre .1) (a .r) (a .words) (a .n) (a .tick .0) z (λ e. c .before .if1 .taken (f ∙ e)) ∙ sym f) (c .before .if1 .taken)
 
 least-of-requires : tie.Need-least-of-requires
 least-of-requires c κs = search needs
@@ -59,9 +59,9 @@ wait-saved-requires c κs =
     let k = decBlock b in
     let x = c .before .before .before .before .before .before .before .before .before .before .before .before .before .before .look-up .ensures in
     let z = x .1 .1 in
-    let w = full-before b (c .before .before .before .before .before .before .before .before .before .before .before .before .before .before .before .before .before .pre .1) (a .r) (a .words) (a .n) (a .tick) z (c .before .before .before .before .before .before .before .before .before .before .before .before .before .before .look-up .result .known) (c .before .before .before .before .before .before .before .before .before .before .before .full-if .result) (x .1 .0) (c .before .before .before .before .before .before .before .before .before .before .before .full-if .ensures) in
-    let f = c .before .before .before .before .before .before .before .found-before .ensures ∙ ap (λ (t : Bool). foundOf t (caughtUp k (a .tick) .objects .overflow or outOfHandles? k)) w in
-    let g = ready b (c .before .before .before .before .before .before .before .before .before .before .before .before .before .before .before .before .before .pre .1) (a .r) (a .words) (a .n) (a .tick) z (sym f ∙ c .before .before .before .before .before .before .if1 .left) (c .before .before .before .before .before .before .before .before .before .before .before .before .before .before .look-up .result .objects) (c .before .before .before .before .before .before .before .before .before .before .before .before .before .before .look-up .result .known) (c .before .before .before .before .before .before .before .before .before .timer-due .result) (x .0) (x .1 .0) (c .before .before .before .before .before .before .before .before .before .timer-due .ensures) in
+    let w = full-before b (c .before .before .before .before .before .before .before .before .before .before .before .before .before .before .before .before .before .pre .1) (a .r) (a .words) (a .n) (a .tick .0) z (c .before .before .before .before .before .before .before .before .before .before .before .before .before .before .look-up .result .known) (c .before .before .before .before .before .before .before .before .before .before .before .full-if .result) (x .1 .0) (c .before .before .before .before .before .before .before .before .before .before .before .full-if .ensures) in
+    let f = c .before .before .before .before .before .before .before .found-before .ensures ∙ ap (λ (t : Bool). foundOf t (caughtUp k (a .tick .0) .objects .overflow or outOfHandles? k)) w in
+    let g = ready b (c .before .before .before .before .before .before .before .before .before .before .before .before .before .before .before .before .before .pre .1) (a .r) (a .words) (a .n) (a .tick .0) z (sym f ∙ c .before .before .before .before .before .before .if1 .left) (c .before .before .before .before .before .before .before .before .before .before .before .before .before .before .look-up .result .objects) (c .before .before .before .before .before .before .before .before .before .before .before .before .before .before .look-up .result .known) (c .before .before .before .before .before .before .before .before .before .timer-due .result) (x .0) (x .1 .0) (c .before .before .before .before .before .before .before .before .before .timer-due .ensures) in
     (c .before .before .before .before .before .before .before .before .before .before .before .before .before .before .before .before .before .pre .0, (c .before .before .before .before .before .before .before .before .before .before .before .before .before .before .before .before .before .pre .1, g))
 
 same-length-2 : tie.Need-same-length-2
@@ -77,9 +77,9 @@ wait-caught-requires c κs =
     let k = decBlock b in
     let x = c .before .before .before .before .before .before .before .before .before .before .before .before .before .before .look-up .ensures in
     let z = x .1 .1 in
-    let w = full-before b (c .before .before .before .before .before .before .before .before .before .before .before .before .before .before .before .before .before .pre .1) (a .r) (a .words) (a .n) (a .tick) z (c .before .before .before .before .before .before .before .before .before .before .before .before .before .before .look-up .result .known) (c .before .before .before .before .before .before .before .before .before .before .before .full-if .result) (x .1 .0) (c .before .before .before .before .before .before .before .before .before .before .before .full-if .ensures) in
-    let f = c .before .before .before .before .before .before .before .found-before .ensures ∙ ap (λ (t : Bool). foundOf t (caughtUp k (a .tick) .objects .overflow or outOfHandles? k)) w in
-    let g = ready b (c .before .before .before .before .before .before .before .before .before .before .before .before .before .before .before .before .before .pre .1) (a .r) (a .words) (a .n) (a .tick) z (sym f ∙ c .before .before .before .before .before .before .if1 .left) (c .before .before .before .before .before .before .before .before .before .before .before .before .before .before .look-up .result .objects) (c .before .before .before .before .before .before .before .before .before .before .before .before .before .before .look-up .result .known) (c .before .before .before .before .before .before .before .before .before .timer-due .result) (x .0) (x .1 .0) (c .before .before .before .before .before .before .before .before .before .timer-due .ensures) in
+    let w = full-before b (c .before .before .before .before .before .before .before .before .before .before .before .before .before .before .before .before .before .pre .1) (a .r) (a .words) (a .n) (a .tick .0) z (c .before .before .before .before .before .before .before .before .before .before .before .before .before .before .look-up .result .known) (c .before .before .before .before .before .before .before .before .before .before .before .full-if .result) (x .1 .0) (c .before .before .before .before .before .before .before .before .before .before .before .full-if .ensures) in
+    let f = c .before .before .before .before .before .before .before .found-before .ensures ∙ ap (λ (t : Bool). foundOf t (caughtUp k (a .tick .0) .objects .overflow or outOfHandles? k)) w in
+    let g = ready b (c .before .before .before .before .before .before .before .before .before .before .before .before .before .before .before .before .before .pre .1) (a .r) (a .words) (a .n) (a .tick .0) z (sym f ∙ c .before .before .before .before .before .before .if1 .left) (c .before .before .before .before .before .before .before .before .before .before .before .before .before .before .look-up .result .objects) (c .before .before .before .before .before .before .before .before .before .before .before .before .before .before .look-up .result .known) (c .before .before .before .before .before .before .before .before .before .timer-due .result) (x .0) (x .1 .0) (c .before .before .before .before .before .before .before .before .before .timer-due .ensures) in
     (c .before .before .before .before .before .before .before .before .before .before .before .before .before .before .before .before .before .pre .0, (c .before .before .before .before .before .before .before .before .before .before .before .before .before .before .before .before .before .pre .1, g))
 
 same-length-3 : tie.Need-same-length-3
@@ -92,11 +92,11 @@ returns-3 c =
     let k = decBlock b in
     let x = c .before .before .before .before .before .before .before .before .before .before .before .before .before .before .before .before .before .look-up .ensures in
     let z = x .1 .1 in
-    let w = full-before b (c .before .before .before .before .before .before .before .before .before .before .before .before .before .before .before .before .before .before .before .before .pre .1) (a .r) (a .words) (a .n) (a .tick) z (c .before .before .before .before .before .before .before .before .before .before .before .before .before .before .before .before .before .look-up .result .known) (c .before .before .before .before .before .before .before .before .before .before .before .before .before .before .full-if .result) (x .1 .0) (c .before .before .before .before .before .before .before .before .before .before .before .before .before .before .full-if .ensures) in
-    let f = c .before .before .before .before .before .before .before .before .before .before .found-before .ensures ∙ ap (λ (t : Bool). foundOf t (caughtUp k (a .tick) .objects .overflow or outOfHandles? k)) w in
+    let w = full-before b (c .before .before .before .before .before .before .before .before .before .before .before .before .before .before .before .before .before .before .before .before .pre .1) (a .r) (a .words) (a .n) (a .tick .0) z (c .before .before .before .before .before .before .before .before .before .before .before .before .before .before .before .before .before .look-up .result .known) (c .before .before .before .before .before .before .before .before .before .before .before .before .before .before .full-if .result) (x .1 .0) (c .before .before .before .before .before .before .before .before .before .before .before .before .before .before .full-if .ensures) in
+    let f = c .before .before .before .before .before .before .before .before .before .before .found-before .ensures ∙ ap (λ (t : Bool). foundOf t (caughtUp k (a .tick .0) .objects .overflow or outOfHandles? k)) w in
     let l = c .before .before .before .before .before .before .before .before .before .before .before .before .before .before .before .before .before .look-up .result .objects in
-    let o = ap (λ (m : ℕ). take m (ids l)) (c .before .before .before .before .before .before .before .least-of .ensures) ∙ looked-is b (c .before .before .before .before .before .before .before .before .before .before .before .before .before .before .before .before .before .before .before .before .pre .1) (a .r) (a .words) (a .n) (a .tick) z l (x .0) in
-    (c .before .before .wait-caught .ensures .0, c .before .before .wait-caught .ensures .1 (⊎-elim (λ q. inl q) (λ e. inr (call-none b (c .before .before .before .before .before .before .before .before .before .before .before .before .before .before .before .before .before .before .before .before .pre .1) (a .r) (a .words) (a .n) (a .tick) z (sym f ∙ c .before .before .before .before .before .before .before .before .before .if1 .left) (ap (anyNear (k .objects)) (sym o) ∙ e))) (finds-none _ _ _ _ _ (sym (c .before .before .before .before .before .may-find .ensures) ∙ c .before .before .before .before .if2 .left))))
+    let o = ap (λ (m : ℕ). take m (ids l)) (c .before .before .before .before .before .before .before .least-of .ensures) ∙ looked-is b (c .before .before .before .before .before .before .before .before .before .before .before .before .before .before .before .before .before .before .before .before .pre .1) (a .r) (a .words) (a .n) (a .tick .0) z l (x .0) in
+    (c .before .before .wait-caught .ensures .0, c .before .before .wait-caught .ensures .1 (⊎-elim (λ q. inl q) (λ e. inr (call-none b (c .before .before .before .before .before .before .before .before .before .before .before .before .before .before .before .before .before .before .before .before .pre .1) (a .r) (a .words) (a .n) (a .tick .0) z (sym f ∙ c .before .before .before .before .before .before .before .before .before .if1 .left) (ap (anyNear (k .objects)) (sym o) ∙ e))) (finds-none _ _ _ _ _ (sym (c .before .before .before .before .before .may-find .ensures) ∙ c .before .before .before .before .if2 .left))))
 
 pub wait-synchronization-n-spec : {M : Type 1} → statement M
 wait-synchronization-n-spec =

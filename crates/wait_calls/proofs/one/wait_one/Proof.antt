@@ -1,7 +1,6 @@
 use mathlib.Core.Path.{refl, ap, sym, _∙_}
 use mathlib.Core.Bool.{false}
 use mathlib.Core.List.{[], _∷_}
-use borrow.Author.Tests.{eq-eqb, ne-eqb}
 use Rattle.types.specs.declared.object.Slot.{Slot}
 use Rattle.types.specs.declared.thread.WaitSyscall.the-variants.{WaitSynchronization1}
 use Rattle.block.specs.Block.{decBlock}
@@ -45,6 +44,9 @@ returns-2 : tie.Need-returns-2
 returns-2 c = let sig = sym (c .before .before .before .before .before .before .before .signaled .ensures ∙ ap (λ (x : Slot). isSignaled (decBlock (c .before .before .before .before .before .before .before .before .before .before .before .before .args .block .now) .threads) (x .object) (c .before .before .before .before .before .before .before .before .before .before .before .before .args .c)) (c .before .before .before .before .before .before .before .before .before .slot-at .ensures)) ∙ c .before .before .before .before .before .before .if1 .taken in
     rw sig (c .done .ensures ∙ sym (outcome-0 _ (sym (c .before .before .before .before .take .ensures .0) ∙ c .before .if2 .left)), c .before .before .before .before .take .ensures .1)
 
+is-zero-requires : tie.Need-is-zero-requires
+is-zero-requires c κs = search needs
+
 answers-requires : tie.Need-answers-requires
 answers-requires c κs = search needs
 
@@ -52,9 +54,9 @@ same-length-3 : tie.Need-same-length-3
 same-length-3 c = search needs
 
 returns-3 : tie.Need-returns-3
-returns-3 c = let sig = sym (c .before .before .before .signaled .ensures ∙ ap (λ (x : Slot). isSignaled (decBlock (c .before .before .before .before .before .before .before .before .args .block .now) .threads) (x .object) (c .before .before .before .before .before .before .before .before .args .c)) (c .before .before .before .before .before .slot-at .ensures)) ∙ c .before .before .if1 .left in
-    let k = decBlock (c .before .before .before .before .before .before .before .before .args .block .now) in
-    rw (sig, eq-eqb _ 0 (c .before .if3 .taken)) (stays (c .before .before .before .before .before .before .before .before .args .block .now) (c .before .before .before .before .before .before .before .before .pre .1 .0) (c .before .before .before .before .before .before .before .before .pre .1 .1 .0) _ (answers 17 k) (answers 17 k) refl refl (c .answers .ensures))
+returns-3 c = let sig = sym (c .before .before .before .before .signaled .ensures ∙ ap (λ (x : Slot). isSignaled (decBlock (c .before .before .before .before .before .before .before .before .before .args .block .now) .threads) (x .object) (c .before .before .before .before .before .before .before .before .before .args .c)) (c .before .before .before .before .before .before .slot-at .ensures)) ∙ c .before .before .before .if1 .left in
+    let k = decBlock (c .before .before .before .before .before .before .before .before .before .args .block .now) in
+    rw (sig, sym (c .before .before .is-zero .ensures) ∙ c .before .if3 .taken) (stays (c .before .before .before .before .before .before .before .before .before .args .block .now) (c .before .before .before .before .before .before .before .before .before .pre .1 .0) (c .before .before .before .before .before .before .before .before .before .pre .1 .1 .0) _ (answers 17 k) (answers 17 k) refl refl (c .answers .ensures))
 
 array-set-from-l : tie.Need-array-set-from-l
 array-set-from-l c = search needs
@@ -70,11 +72,11 @@ same-length-4 c = search needs
 
 returns-4 : tie.Need-returns-4
 unfolding padded
-returns-4 c = let sig = sym (c .before .before .before .before .before .before .before .signaled .ensures ∙ ap (λ (x : Slot). isSignaled (decBlock (c .before .before .before .before .before .before .before .before .before .before .before .before .args .block .now) .threads) (x .object) (c .before .before .before .before .before .before .before .before .before .before .before .before .args .c)) (c .before .before .before .before .before .before .before .before .before .slot-at .ensures)) ∙ c .before .before .before .before .before .before .if1 .left in
-    let a = c .before .before .before .before .before .before .before .before .before .before .before .before .args in
-    let v = waitOnIn (decBlock (a .block .now)) (a .c) (padded 8 (a .o .0 ∷ [])) 1 false (a .nanos) (a .tick) WaitSynchronization1 in
-    rw (sig, ne-eqb _ 0 (c .before .before .before .before .before .if3 .left))
-    (leaves (a .block .now) _ _ v v refl (begun-none (a .block .now) (c .before .before .before .before .before .before .before .before .before .before .before .before .pre .1 .1 .0) (a .c) (padded 8 (a .o .0 ∷ [])) 1 false (a .nanos) (a .tick) WaitSynchronization1 (c .before .before .before .before .before .before .before .before .before .before .before .before .pre .1 .1 .1)) (c .silent .ensures) (c .before .before .before .begin-wait .ensures))
+returns-4 c = let sig = sym (c .before .before .before .before .before .before .before .before .signaled .ensures ∙ ap (λ (x : Slot). isSignaled (decBlock (c .before .before .before .before .before .before .before .before .before .before .before .before .before .args .block .now) .threads) (x .object) (c .before .before .before .before .before .before .before .before .before .before .before .before .before .args .c)) (c .before .before .before .before .before .before .before .before .before .before .slot-at .ensures)) ∙ c .before .before .before .before .before .before .before .if1 .left in
+    let a = c .before .before .before .before .before .before .before .before .before .before .before .before .before .args in
+    let v = waitOnIn (decBlock (a .block .now)) (a .c) (padded 8 (a .o .0 ∷ [])) 1 false (a .nanos .0) (a .tick .0) WaitSynchronization1 in
+    rw (sig, sym (c .before .before .before .before .before .before .is-zero .ensures) ∙ c .before .before .before .before .before .if3 .left)
+    (leaves (a .block .now) _ _ v v refl (begun-none (a .block .now) (c .before .before .before .before .before .before .before .before .before .before .before .before .before .pre .1 .1 .0) (a .c) (padded 8 (a .o .0 ∷ [])) 1 false (a .nanos .0) (a .tick .0) WaitSynchronization1 (c .before .before .before .before .before .before .before .before .before .before .before .before .before .pre .1 .1 .1)) (c .silent .ensures) (c .before .before .before .begin-wait .ensures))
 
 pub wait-one-spec : {M : Type 1} → statement M
 wait-one-spec =
@@ -89,6 +91,7 @@ wait-one-spec =
     done-requires
     same-length-2
     returns-2
+    is-zero-requires
     answers-requires
     same-length-3
     returns-3

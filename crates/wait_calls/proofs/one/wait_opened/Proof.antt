@@ -19,7 +19,7 @@ returns : tie.Need-returns
 returns c =
     let a = c .before .before .before .before .args in
     let b = a .block .now in
-    stays b (c .before .before .before .before .pre .1 .0) (c .before .before .before .before .pre .1 .1) _ (answers 16 (decBlock b)) _ refl (unknown (decBlock b) (a .o .0) (a .r) (a .tick) (c .before .if1 .taken)) (c .answers .ensures)
+    stays b (c .before .before .before .before .pre .1 .0) (c .before .before .before .before .pre .1 .1) _ (answers 16 (decBlock b)) _ refl (unknown (decBlock b) (a .o .0) (a .r) (a .tick .0) (c .before .if1 .taken)) (c .answers .ensures)
 
 current-requires : tie.Need-current-requires
 current-requires c κs = search needs
@@ -37,7 +37,7 @@ returns-2 : tie.Need-returns-2
 returns-2 c =
     let a = c .before .before .before .before .before .before .before .before .args in
     let b = a .block .now in
-    stays b (c .before .before .before .before .before .before .before .before .pre .1 .0) (c .before .before .before .before .before .before .before .before .pre .1 .1) _ (done (decBlock b)) _ refl (nobody (decBlock b) (a .o .0) (a .r) (a .tick) (c .before .before .before .before .before .if1 .left) (sym (c .before .before .thread-flag .ensures ∙ ap threadFlag (c .before .before .before .current .ensures)) ∙ c .before .if2 .taken)) (c .done .ensures)
+    stays b (c .before .before .before .before .before .before .before .before .pre .1 .0) (c .before .before .before .before .before .before .before .before .pre .1 .1) _ (done (decBlock b)) _ refl (nobody (decBlock b) (a .o .0) (a .r) (a .tick .0) (c .before .before .before .before .before .if1 .left) (sym (c .before .before .thread-flag .ensures ∙ ap threadFlag (c .before .before .before .current .ensures)) ∙ c .before .if2 .taken)) (c .done .ensures)
 
 thread-value-requires : tie.Need-thread-value-requires
 thread-value-requires c κs = search needs
@@ -55,8 +55,8 @@ returns-3 : tie.Need-returns-3
 returns-3 c =
     let a = c .before .before .before .before .before .before .before .before .before .before .before .before .before .args in
     let b = a .block .now in
-    let w = waits (decBlock b) (a .o .0) (a .r) (a .tick) (c .before .before .before .before .before .before .before .before .before .before .if1 .left) (λ z. c .before .before .before .before .before .before .if2 .left (c .before .before .before .before .before .before .before .thread-flag .ensures ∙ ap threadFlag (c .before .before .before .before .before .before .before .before .current .ensures) ∙ z)) in
-    let f = (λ i. wait1As (SomeThread ((c .before .before .before .before .before .thread-value .ensures ∙ ap threadValue (c .before .before .before .before .before .before .before .before .current .ensures)) i)) (decBlock b) (a .o .0) (c .before .before .before .before .pair .ensures i) (a .tick)) ∙ w in
+    let w = waits (decBlock b) (a .o .0) (a .r) (a .tick .0) (c .before .before .before .before .before .before .before .before .before .before .if1 .left) (λ z. c .before .before .before .before .before .before .if2 .left (c .before .before .before .before .before .before .before .thread-flag .ensures ∙ ap threadFlag (c .before .before .before .before .before .before .before .before .current .ensures) ∙ z)) in
+    let f = (λ i. wait1As (SomeThread ((c .before .before .before .before .before .thread-value .ensures ∙ ap threadValue (c .before .before .before .before .before .before .before .before .current .ensures)) i)) (decBlock b) (a .o .0) (c .before .before .before .before .pair .ensures i) (a .tick .0)) ∙ w in
     (c .before .before .wait-one .ensures .0 ∙ ap outcome f, c .before .before .wait-one .ensures .1 ∙ ap (λ (v : Served). left v b) f)
 
 pub wait-opened-spec : {M : Type 1} → statement M

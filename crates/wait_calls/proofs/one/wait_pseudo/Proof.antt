@@ -18,7 +18,7 @@ returns c =
     let b = a .block .now in
     let g = c .before .before .before .before .before .open-caught .ensures in
     let v = c .before .before .before .before .before .open-caught .result in
-    rw (g .0 .same (c .before .if1 .taken)) (refuses b _ (v .found) _ (c .refused .ensures) (pseudo-refused b (a .r) (a .tick) (c .before .before .before .before .before .before .before .before .pre .1 .1) _ v (g .0) (c .before .if1 .taken)) (c .before .if1 .taken))
+    rw (g .0 .same (c .before .if1 .taken)) (refuses b _ (v .found) _ (c .refused .ensures) (pseudo-refused b (a .r) (a .tick .0) (c .before .before .before .before .before .before .before .before .pre .1 .1) _ v (g .0) (c .before .if1 .taken)) (c .before .if1 .taken))
 
 wait-opened-requires : tie.Need-wait-opened-requires
 wait-opened-requires c κs =
@@ -27,7 +27,7 @@ wait-opened-requires c κs =
     let g = c .before .before .before .before .before .before .open-caught .ensures in
     let v = c .before .before .before .before .before .before .open-caught .result in
     let z = c .before .before .if1 .left in
-    (search needs, (g .1 .0, pseudo-handles b (a .r) (a .tick) (c .before .before .before .before .before .before .before .before .before .pre .1 .1) _ v (g .0) z (g .1 .0) (g .1 .1 z)))
+    (search needs, (g .1 .0, pseudo-handles b (a .r) (a .tick .0) (c .before .before .before .before .before .before .before .before .before .pre .1 .1) _ v (g .0) z (g .1 .0) (g .1 .1 z)))
 
 same-length-2 : tie.Need-same-length-2
 same-length-2 c = search needs
@@ -41,7 +41,7 @@ returns-2 c =
     let z = c .before .before .before .before .before .if1 .left in
     let s = g .1 .0 in
     let q = g .1 .1 z in
-    moves b _ _ _ _ _ (pseudo-is b (a .r) (a .tick) (c .before .before .before .before .before .before .before .before .before .before .before .before .pre .1 .1) _ v (g .0) z s q (v .object .0) (g .0 .object z)) (pseudo-none b (a .r) (a .tick) (c .before .before .before .before .before .before .before .before .before .before .before .before .pre .1 .1) _ v (g .0) z s q) (c .before .before .wait-opened .ensures .0) (c .before .before .wait-opened .ensures .1)
+    moves b _ _ _ _ _ (pseudo-is b (a .r) (a .tick .0) (c .before .before .before .before .before .before .before .before .before .before .before .before .pre .1 .1) _ v (g .0) z s q (v .object .0) (g .0 .object z)) (pseudo-none b (a .r) (a .tick .0) (c .before .before .before .before .before .before .before .before .before .before .before .before .pre .1 .1) _ v (g .0) z s q) (c .before .before .wait-opened .ensures .0) (c .before .before .wait-opened .ensures .1)
 
 pub wait-pseudo-spec : {M : Type 1} → statement M
 wait-pseudo-spec =

@@ -25,8 +25,8 @@ same-length c = search needs
 returns : tie.Need-returns
 returns c = search needs
 
-object-of-requires : tie.Need-object-of-requires
-object-of-requires c κs = search needs
+resolve-requires : tie.Need-resolve-requires
+resolve-requires c κs = search needs
 
 over-now-requires : tie.Need-over-now-requires
 over-now-requires c κs = search needs
@@ -42,8 +42,8 @@ returns-2 c =
     let a = c .before .before .before .before .before .before .before .before .before .args in
     let b = a .block .now in
     let p = sym (c .before .before .before .before .before .before .before .is-pseudo .ensures) ∙ c .before .before .before .before .before .before .if1 .left in
-    let o = c .before .before .before .before .object-of .result .0 in
-    refuses b _ 8 _ (c .refused .ensures) (plain-over b (a .r) (a .tick) p o (c .before .before .before .before .object-of .ensures) (sym (c .before .before .over-now .ensures) ∙ c .before .if2 .taken)) (λ z. omega (arith, z))
+    let o = c .before .before .before .before .resolve .result .0 in
+    refuses b _ 8 _ (c .refused .ensures) (plain-over b (a .r) (a .tick .0) p o (c .before .before .before .before .resolve .ensures) (sym (c .before .before .over-now .ensures) ∙ c .before .if2 .taken)) (λ z. omega (arith, z))
 
 timer-due-requires : tie.Need-timer-due-requires
 timer-due-requires c κs = search needs
@@ -62,15 +62,15 @@ returns-3 c =
     let a = c .before .before .before .before .before .before .before .before .before .before .before .before .before .before .args in
     let b = a .block .now in
     let p = sym (c .before .before .before .before .before .before .before .before .before .before .before .before .is-pseudo .ensures) ∙ c .before .before .before .before .before .before .before .before .before .before .before .if1 .left in
-    let o = c .before .before .before .before .before .before .before .before .before .object-of .result .0 in
-    refuses b _ (c .before .before .found-before .result) _ (c .refused2 .ensures) (plain-found b (a .r) (a .tick) p o (c .before .before .before .before .before .before .before .before .before .object-of .ensures) (sym (c .before .before .before .before .before .before .before .over-now .ensures) ∙ c .before .before .before .before .before .before .if2 .left) ∙ sym (c .before .before .found-before .ensures)) (c .before .if3 .taken)
+    let o = c .before .before .before .before .before .before .before .before .before .resolve .result .0 in
+    refuses b _ (c .before .before .found-before .result) _ (c .refused2 .ensures) (plain-found b (a .r) (a .tick .0) p o (c .before .before .before .before .before .before .before .before .before .resolve .ensures) (sym (c .before .before .before .before .before .before .before .over-now .ensures) ∙ c .before .before .before .before .before .before .if2 .left) ∙ sym (c .before .before .found-before .ensures)) (c .before .if3 .taken)
 
 catch-up-if-requires : tie.Need-catch-up-if-requires
 catch-up-if-requires c κs =
     let a = c .before .before .before .before .before .before .before .before .before .before .before .before .before .before .args in
     let b = a .block .now in
     let n = none-found false _ (sym (c .before .before .found-before .ensures) ∙ c .before .if3 .left) .1 in
-    let f = or-false (caughtUp (decBlock b) (a .tick) .objects .overflow) (outOfHandles? (decBlock b)) n in
+    let f = or-false (caughtUp (decBlock b) (a .tick .0) .objects .overflow) (outOfHandles? (decBlock b)) n in
     (c .before .before .before .before .before .before .before .before .before .before .before .before .before .before .pre .0, (c .before .before .before .before .before .before .before .before .before .before .before .before .before .before .pre .1, (c .before .before .before .before .timer-due .ensures, f .0)))
 
 wait-opened-requires : tie.Need-wait-opened-requires
@@ -78,7 +78,7 @@ wait-opened-requires c κs =
     let a = c .before .before .before .before .before .before .before .before .before .before .before .before .before .before .before .before .before .before .args in
     let b = a .block .now in
     let n = none-found false _ (sym (c .before .before .before .before .before .before .found-before .ensures) ∙ c .before .before .before .before .before .if3 .left) .1 in
-    let f = or-false (caughtUp (decBlock b) (a .tick) .objects .overflow) (outOfHandles? (decBlock b)) n in
+    let f = or-false (caughtUp (decBlock b) (a .tick .0) .objects .overflow) (outOfHandles? (decBlock b)) n in
     (search needs, (c .before .before .before .catch-up-if .ensures .1, same-handles _ (decBlock b) _ (c .before .before .before .catch-up-if .ensures .0) (f .1)))
 
 same-length-4 : tie.Need-same-length-4
@@ -89,9 +89,9 @@ returns-4 c =
     let a = c .before .before .before .before .before .before .before .before .before .before .before .before .before .before .before .before .before .before .before .before .before .args in
     let b = a .block .now in
     let p = sym (c .before .before .before .before .before .before .before .before .before .before .before .before .before .before .before .before .before .before .before .is-pseudo .ensures) ∙ c .before .before .before .before .before .before .before .before .before .before .before .before .before .before .before .before .before .before .if1 .left in
-    let o = c .before .before .before .before .before .before .before .before .before .before .before .before .before .before .before .before .object-of .result .0 in
-    moves b _ _ _ _ _ (ap (λ (k : Kernel). wait1Opened k o (a .r) (a .tick)) (c .before .before .before .before .before .before .catch-up-if .ensures .0) ∙ plain-is b (a .r) (a .tick) p o (c .before .before .before .before .before .before .before .before .before .before .before .before .before .before .before .before .object-of .ensures))
-    (plain-found b (a .r) (a .tick) p o (c .before .before .before .before .before .before .before .before .before .before .before .before .before .before .before .before .object-of .ensures) (sym (c .before .before .before .before .before .before .before .before .before .before .before .before .before .before .over-now .ensures) ∙ c .before .before .before .before .before .before .before .before .before .before .before .before .before .if2 .left) ∙ sym (c .before .before .before .before .before .before .before .before .before .found-before .ensures) ∙ c .before .before .before .before .before .before .before .before .if3 .left) (c .before .before .wait-opened .ensures .0) (c .before .before .wait-opened .ensures .1)
+    let o = c .before .before .before .before .before .before .before .before .before .before .before .before .before .before .before .before .resolve .result .0 in
+    moves b _ _ _ _ _ (ap (λ (k : Kernel). wait1Opened k o (a .r) (a .tick .0)) (c .before .before .before .before .before .before .catch-up-if .ensures .0) ∙ plain-is b (a .r) (a .tick .0) p o (c .before .before .before .before .before .before .before .before .before .before .before .before .before .before .before .before .resolve .ensures))
+    (plain-found b (a .r) (a .tick .0) p o (c .before .before .before .before .before .before .before .before .before .before .before .before .before .before .before .before .resolve .ensures) (sym (c .before .before .before .before .before .before .before .before .before .before .before .before .before .before .over-now .ensures) ∙ c .before .before .before .before .before .before .before .before .before .before .before .before .before .if2 .left) ∙ sym (c .before .before .before .before .before .before .before .before .before .found-before .ensures) ∙ c .before .before .before .before .before .before .before .before .if3 .left) (c .before .before .wait-opened .ensures .0) (c .before .before .wait-opened .ensures .1)
 
 pub wait-synchronization1-spec : {M : Type 1} → statement M
 wait-synchronization1-spec =
@@ -101,7 +101,7 @@ wait-synchronization1-spec =
     wait-pseudo-requires
     same-length
     returns
-    object-of-requires
+    resolve-requires
     over-now-requires
     refused-requires
     same-length-2

@@ -12,10 +12,10 @@ use Rattle.wait_calls.proofs.room.met.Statement.{statement}
 use Rattle.wait_calls.proofs.room.met.Tie as tie
 
 abbrev Inv-loop : tie.InvT-loop
-Inv-loop block n p words i₀ i = (i ≤ 8) × (met (decBlock block .«current_thread») (decBlock block .handles) p (drop i (take n words)) ≡ met (decBlock block .«current_thread») (decBlock block .handles) p (take n words))
+Inv-loop block n words p i₀ i = (i ≤ 8) × (met (decBlock block .«current_thread») (decBlock block .handles) p (drop i (take n words)) ≡ met (decBlock block .«current_thread») (decBlock block .handles) p (take n words))
 
 abbrev μ-loop : tie.MeasureT-loop
-μ-loop block n p words i₀ i = 8 - i
+μ-loop block n words p i₀ i = 8 - i
 
 loop-holds : tie.Need-loop-holds Inv-loop μ-loop
 loop-holds c = (search needs, refl)

@@ -9,8 +9,8 @@ use Rattle.block.specs.Table.{decEntry}
 use Rattle.block.specs.Tables.{row-at, entriesIn}
 use Rattle.object.specs.Handles.{objectOf, noEntry}
 use borrow.Author.Needs.{needs}
-use Rattle.rows.proofs.read.object_of.Statement.{statement}
-use Rattle.rows.proofs.read.object_of.Tie as tie
+use Rattle.rows.proofs.read.resolve.Statement.{statement}
+use Rattle.rows.proofs.read.resolve.Tie as tie
 
 -- src/read.rt:86:9
 place-of-requires : tie.Need-place-of-requires
@@ -37,5 +37,5 @@ returns-2 c = let q = c .before .before .before in
     ap (λ (e : HandleEntry). e .object .0) (c .before .entry-at .ensures ∙ row-at decEntry 8 noEntry 256 b 10368 (p .result) (c .before .before .if1 .left))
     ∙ ap (λ n. getD (entriesIn b) n noEntry .object .0) (p .ensures)
 
-pub object-of-spec : {M : Type 1} → statement M
-object-of-spec = tie.close (tie.spec place-of-requires returns entry-at-requires returns-2)
+pub resolve-spec : {M : Type 1} → statement M
+resolve-spec = tie.close (tie.spec place-of-requires returns entry-at-requires returns-2)

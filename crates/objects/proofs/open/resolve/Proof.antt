@@ -8,8 +8,8 @@ use Rattle.objects.specs.Open.{Opens}
 use Rattle.objects.proofs.Opened.{opens-same}
 use Rattle.objects.proofs.Sound.{opened-block}
 use borrow.Author.Needs.{needs}
-use Rattle.objects.proofs.open.open.Statement.{statement}
-use Rattle.objects.proofs.open.open.Tie as tie
+use Rattle.objects.proofs.open.resolve.Statement.{statement}
+use Rattle.objects.proofs.open.resolve.Tie as tie
 
 -- src/open.rt:167:13
 current-requires : tie.Need-current-requires
@@ -27,8 +27,8 @@ same-length c = search needs
 returns : tie.Need-returns
 unfolding resolve
 returns c = let b = c .before .before .before .before .before .before .before .before .args .block .now in
-    let p : Opens (decBlock b) (resolved (decBlock b) (c .before .before .before .before .before .before .before .before .args .h)) b (c .before .before .open-current .last .0) (c .before .before .open-current .result) = rw (eq-eqb _ 0xFFFF8000 (c .before .before .before .before .before .before .if1 .taken)) (rw (c .before .before .before .before .current .ensures) at (c .before .before .open-current .ensures)) in
-    (p, opened-block b (c .before .before .before .before .before .before .before .before .pre .1) (c .before .before .before .before .before .before .before .before .args .h) _ _ p)
+    let p : Opens (decBlock b) (resolved (decBlock b) (c .before .before .before .before .before .before .before .before .args .h .0)) b (c .before .before .open-current .last .0) (c .before .before .open-current .result) = rw (eq-eqb _ 0xFFFF8000 (c .before .before .before .before .before .before .if1 .taken)) (rw (c .before .before .before .before .current .ensures) at (c .before .before .open-current .ensures)) in
+    (p, opened-block b (c .before .before .before .before .before .before .before .before .pre .1) (c .before .before .before .before .before .before .before .before .args .h .0) _ _ p)
 
 -- src/open.rt:171:9
 open-process-requires : tie.Need-open-process-requires
@@ -42,12 +42,12 @@ same-length-2 c = search needs
 returns-2 : tie.Need-returns-2
 unfolding resolve
 returns-2 c = let b = c .before .before .before .before .before .before .before .args .block .now in
-    let p : Opens (decBlock b) (resolved (decBlock b) (c .before .before .before .before .before .before .before .args .h)) b (c .before .before .open-process .last .0) (c .before .before .open-process .result) = rw (ne-eqb _ 0xFFFF8000 (c .before .before .before .before .before .if1 .left), eq-eqb _ 0xFFFF8001 (c .before .before .before .before .if2 .taken)) (c .before .before .open-process .ensures) in
-    (p, opened-block b (c .before .before .before .before .before .before .before .pre .1) (c .before .before .before .before .before .before .before .args .h) _ _ p)
+    let p : Opens (decBlock b) (resolved (decBlock b) (c .before .before .before .before .before .before .before .args .h .0)) b (c .before .before .open-process .last .0) (c .before .before .open-process .result) = rw (ne-eqb _ 0xFFFF8000 (c .before .before .before .before .before .if1 .left), eq-eqb _ 0xFFFF8001 (c .before .before .before .before .if2 .taken)) (c .before .before .open-process .ensures) in
+    (p, opened-block b (c .before .before .before .before .before .before .before .pre .1) (c .before .before .before .before .before .before .before .args .h .0) _ _ p)
 
 -- src/open.rt:173:9
-object-of-requires : tie.Need-object-of-requires
-object-of-requires c κs = search needs
+resolve-requires : tie.Need-resolve-requires
+resolve-requires c κs = search needs
 
 -- src/open.rt:174:5
 there-requires : tie.Need-there-requires
@@ -61,13 +61,13 @@ same-length-3 c = search needs
 returns-3 : tie.Need-returns-3
 unfolding resolve
 returns-3 c = let b = c .before .before .before .before .before .before .before .args .block .now in
-    let p : Opens (decBlock b) (resolved (decBlock b) (c .before .before .before .before .before .before .before .args .h)) b b (c .there .result) =
+    let p : Opens (decBlock b) (resolved (decBlock b) (c .before .before .before .before .before .before .before .args .h .0)) b b (c .there .result) =
     rw (ne-eqb _ 0xFFFF8000 (c .before .before .before .before .before .if1 .left), ne-eqb _ 0xFFFF8001 (c .before .before .before .before .if2 .left))
-    (opens-same b (c .before .before .before .before .before .before .before .pre .1) _ (c .there .result) refl (ap (λ (x : ObjectId). x .0) (c .there .ensures .0) ∙ c .before .before .object-of .ensures) (c .there .ensures .1)) in
-    (p, opened-block b (c .before .before .before .before .before .before .before .pre .1) (c .before .before .before .before .before .before .before .args .h) _ _ p)
+    (opens-same b (c .before .before .before .before .before .before .before .pre .1) _ (c .there .result) refl (ap (λ (x : ObjectId). x .0) (c .there .ensures .0) ∙ c .before .before .resolve .ensures) (c .there .ensures .1)) in
+    (p, opened-block b (c .before .before .before .before .before .before .before .pre .1) (c .before .before .before .before .before .before .before .args .h .0) _ _ p)
 
-pub open-spec : {M : Type 1} → statement M
-open-spec =
+pub resolve-spec : {M : Type 1} → statement M
+resolve-spec =
     tie.close
     (tie.spec
     current-requires
@@ -77,7 +77,7 @@ open-spec =
     open-process-requires
     same-length-2
     returns-2
-    object-of-requires
+    resolve-requires
     there-requires
     same-length-3
     returns-3)
