@@ -3,6 +3,7 @@
 # make demo        three guest programs on a simulated clock; prints their timeline
 # make growth      how the time of a call grows with threads, objects and handles
 # make hostile     how long question 2 takes on blocks made to be slow, beside the slowest sound one
+# make wrong-kernels     changes of the definitions that the theorem has to refuse
 # make differential, record, flips, bench, bench-original, profile     need cargo and ORIGINAL, a copy of the original's source
 CC = gcc
 CFLAGS = -std=c11 -O2 -Wall -Wextra -Iinclude
@@ -76,6 +77,9 @@ bench-original: original $(KERNEL_LIB)
 profile: $(C)/pass $(C)/copies blocks
 	sh bench/profile.sh $(C)/pass $(C)/copies target/blocks/full.block target/blocks/busy.block
 
+wrong-kernels:
+	sh wrong/run.sh
+
 original:
 	ORIGINAL=$(abspath $(ORIGINAL)) sh oracle/scripts/copy-original.sh
 
@@ -123,4 +127,4 @@ $(C)/obj/%.o: %.c $(wildcard include/*.h tests/*.h bench/*.h)
 clean:
 	rm -rf target oracle/target
 
-.PHONY: all test staticlib host-test demo flip-fresh flips bench growth hostile bench-original profile original oracle differential record blocks clean
+.PHONY: all test staticlib host-test demo flip-fresh flips bench growth hostile bench-original profile wrong-kernels original oracle differential record blocks clean

@@ -196,7 +196,7 @@ static int next_event(uint64_t *at)
     return get32(answer, KERNEL_NEXT_EVENT_FOUND_AT) == 1;
 }
 
-/* The reservation of an exclusive load (exclusive_addr) does not outlive a switch. These guests make none. */
+/* The reservation of an exclusive load (exclusive_addr) does not outlive a switch to a thread. These guests make none. */
 static void drop_exclusive_reservation(void)
 {
 }
@@ -213,8 +213,6 @@ int main(void)
         uint32_t answer = kernel_schedule(block, sizeof block, bank, sizeof bank, processor, sizeof processor, switched, sizeof switched, tick);
         if (answer != KERNEL_DONE)
             fail("schedule", answer);
-        if (get32(switched, KERNEL_SCHEDULE_SWITCHED_AT))
-            drop_exclusive_reservation();
         /* what the wait of the thread that runs gave, handed out once; nobody runs: on to the next tick that matters */
         answer = kernel_collect(block, sizeof block, wait, sizeof wait);
         if (answer == KERNEL_NO_THREAD) {
@@ -224,6 +222,9 @@ int main(void)
         }
         if (answer != KERNEL_DONE)
             fail("collect", answer);
+        /* the pass switched and a thread is current */
+        if (get32(switched, KERNEL_SCHEDULE_SWITCHED_AT))
+            drop_exclusive_reservation();
         /* the TLS slot tells the thread; the guest runs until its next call */
         uint32_t thread = get32(processor, 4 * KERNEL_CONTEXT_TLS);
         tick += WORK;

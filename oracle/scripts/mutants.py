@@ -68,6 +68,13 @@ M = [
  ("satisfied_now takes pseudo-handles as unknown only after others", "mod", "if handle == CURRENT_THREAD || handle == CURRENT_PROCESS {\n                return None;\n            }\n            *object", "if handle == CURRENT_PROCESS { if let Some(p) = self.process_object { *object = p; continue; } }\n            *object"),
  ("thread keeps its core without saving", "mod", "thread.context.save_from(cpu);\n                    if thread.status", "if thread.status"),
  ("entry keeps bit 0", "thread", "regs[15] = entry & !1;", "regs[15] = entry;"),
+ ("negative count is signalled", "mod", "semaphore.count > 0,", "semaphore.count != 0,"),
+ ("quiet_release not at equal priority", "mod", "thread.priority >= running.priority,", "thread.priority > running.priority,"),
+ ("yield of 20,001 ticks", "svc", "const YIELD_TICKS: u64 = 20_000;", "const YIELD_TICKS: u64 = 20_001;"),
+ ("signal wakes at most one", "svc", "if unlimited || woken < value {", "if woken < 1 {"),
+ ("stack top and argument swapped", "thread", "regs[0] = arg;\n        regs[13] = stack_top;", "regs[0] = stack_top;\n        regs[13] = arg;"),
+ ("semaphore release leaves r1", "svc", "system.cpu.regs[1] = previous as u32;", ""),
+ ("switched flag inverted", "mod", "pub fn schedule(&mut self, cpu: &mut Cpu, tick: u64) -> bool {", "pub fn schedule(&mut self, cpu: &mut Cpu, tick: u64) -> bool { !self.schedule_as(cpu, tick) }\n    fn schedule_as(&mut self, cpu: &mut Cpu, tick: u64) -> bool {"),
 ]
 if which == 'equal': M = EQUAL
 if len(sys.argv) > 4: M = [m for m in M if any(w in m[0] for w in sys.argv[4:])]
