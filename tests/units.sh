@@ -4,6 +4,8 @@
 cd "$(dirname "$0")/.." || exit 2
 names='tick|ticks|wake|due|since|fire_at|nanos|initial|interval|timeout|h|handle|o|object|process'
 found=$(grep -nE "(^|[ (])($names): *(u32|u64)\b" crates/*/src/*.rt | grep -vE '^crates/(host|codec|sample)/')
+# nobody but units can take the number out of nanoseconds
+grep -q '^pub struct Nanos(u64);$' crates/units/src/lib.rt || { echo "the field of Nanos is not private"; exit 1; }
 [ -z "$found" ] && exit 0
 echo "a bare number in the place of a unit, an object number or a handle:"
 echo "$found"
