@@ -65,6 +65,7 @@ pub fn put_id(b: &mut [u8], x: ObjectId)
     codec::put32(b, 0, x.0);
 }
 
+// What arrays are filled with before they are read from the block: every place is written, so it is left open.
 fn no_waiter() -> Waiter {
     Waiter {
         thread: 0,
@@ -73,6 +74,7 @@ fn no_waiter() -> Waiter {
     }
 }
 
+// As `no_waiter`.
 fn no_id() -> ObjectId {
     ObjectId(0)
 }

@@ -140,6 +140,7 @@ pub fn put_thread(b: &mut [u8], x: Thread)
     codec::put_zeros(b, 112, 48);
 }
 
+// What the table is filled with before it is read from the block: every place is written, so it is left open.
 fn no_thread() -> Thread {
     Thread {
         status: ThreadStatus::Dead,

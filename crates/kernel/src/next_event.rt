@@ -17,6 +17,7 @@ pub struct Earliest {
     pub tick: Ticks,
 }
 
+// Told by `option`, as the two after it: the tick of a search that found none is never read, so it is left open.
 fn earlier_of(best: Earliest, at: Ticks) -> Earliest
     ensures { λ r. ⌜ option r ≡ earlier (option best) (TickOption.SomeTick at) ⌝ }
 {

@@ -20,8 +20,7 @@ pub fn held(x: Slot) -> Slot
     ensures { λ r. ⌜ r ≡ one.held x ⌝ }
 {
     let object = x.object;
-    let kind = types::object::kind_number(object);
-    if kind == 0 {
+    if types::object::is_free(object) {
         return x;
     }
     Slot {

@@ -42,10 +42,10 @@ fn runs_alone(t: Thread, tick: Ticks) -> bool
     if run::starves(t.running_since, tick) {
         return false;
     }
-    if types::thread::result_number(result) != 0 {
+    if !types::thread::no_result(result) {
         return false;
     }
-    types::thread::syscall_number(call) == 0
+    types::thread::no_syscall(call)
 }
 
 // No pulse waits for a pass, and no timer is due.

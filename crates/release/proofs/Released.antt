@@ -3,7 +3,7 @@ use mathlib.Core.Path.{_≡_, refl, sym, ap, subst, _∙_}
 use mathlib.Core.Bool.{true, false}
 use mathlib.Core.List.{List, [], _∷_}
 use Prim.Native.Nat.{ℕ, _-_, _<_, _≤_}
-use borrow.Author.Tests.{le-leb, lt-leb, ne-eqb}
+use borrow.Author.Tests.{le-leb, lt-leb}
 use lib.Dec.{leb}
 use lib.ListN.{length}
 use Rattle.laws.specs.Walk.{walk, walk-zero}
@@ -13,7 +13,8 @@ use Rattle.types.specs.declared.object.KObject.the-variants.{Free}
 use Rattle.types.specs.declared.object.Slot.{Slot}
 use Rattle.types.specs.declared.object.ObjectStore.{ObjectStore}
 use Rattle.types.specs.declared.kernel.Kernel.{Kernel}
-use Rattle.types.specs.Object.{kindNumber, headOf}
+use Rattle.types.specs.Object.{headOf}
+use Rattle.types.specs.Tests.{free?, free-number}
 use Rattle.block.specs.declared.Head.{Head}
 use Rattle.block.specs.Table.{encWaiter, decWaiter}
 use Rattle.block.specs.Thread.{four}
@@ -83,18 +84,18 @@ module _ (b : List ℕ) (en : Encoded b) (o : ℕ) where
   abbrev q : Kernel
   q = decBlock b
 
-  pub released-dead : (x : Slot) → x ≡ slotAt (q .objects .slots) o → kindNumber (x .object) ≡ 0 → release (q .objects) o ≡ q .objects
+  pub released-dead : (x : Slot) → x ≡ slotAt (q .objects .slots) o → free? (x .object) ≡ true → release (q .objects) o ≡ q .objects
   unfolding release
-  released-dead x e z = let w : isFree (objectAt (q .objects) o) ≡ true = ap (λ (y : Slot). isFree (y .object)) (sym e) ∙ rw z in rw w
+  released-dead x e z = let w : isFree (objectAt (q .objects) o) ≡ true = ap (λ (y : Slot). isFree (y .object)) (sym e) ∙ sym (free-number (x .object)) ∙ z in rw w
 
-  live : (x : Slot) → x ≡ slotAt (q .objects .slots) o → (kindNumber (x .object) ≡ 0 → ⊥) → isFree (objectAt (q .objects) o) ≡ false
-  live x e z = ap (λ (y : Slot). isFree (y .object)) (sym e) ∙ ne-eqb (kindNumber (x .object)) 0 z
+  live : (x : Slot) → x ≡ slotAt (q .objects .slots) o → free? (x .object) ≡ false → isFree (objectAt (q .objects) o) ≡ false
+  live x e z = ap (λ (y : Slot). isFree (y .object)) (sym e) ∙ sym (free-number (x .object)) ∙ z
 
-  pub released-last : (x : Slot) → x ≡ slotAt (q .objects .slots) o → (kindNumber (x .object) ≡ 0 → ⊥) → x .refcount < 2 → release (q .objects) o ≡ release-if false (q .objects) o
+  pub released-last : (x : Slot) → x ≡ slotAt (q .objects .slots) o → free? (x .object) ≡ false → x .refcount < 2 → release (q .objects) o ≡ release-if false (q .objects) o
   unfolding release
   released-last x e z n = let m : leb 2 (slotAt (q .objects .slots) o .refcount) ≡ false = ap (λ (y : Slot). leb 2 (y .refcount)) (sym e) ∙ lt-leb 2 (x .refcount) n in rw (live x e z, m)
 
-  pub released-down : (x : Slot) → x ≡ slotAt (q .objects .slots) o → (kindNumber (x .object) ≡ 0 → ⊥) → 2 ≤ x .refcount
+  pub released-down : (x : Slot) → x ≡ slotAt (q .objects .slots) o → free? (x .object) ≡ false → 2 ≤ x .refcount
       → Holds (slotPut b o (record { object = x .object; refcount = x .refcount - 1; pulsed = x .pulsed })) (with q (release (q .objects) o))
   unfolding release release-if
   released-down x e z n = let m : leb 2 (slotAt (q .objects .slots) o .refcount) ≡ true = ap (λ (y : Slot). leb 2 (y .refcount)) (sym e) ∙ le-leb 2 (x .refcount) n in rw (live x e z, m, e) (put-slot (encoded-holds b en) o _)

@@ -83,8 +83,7 @@ pub fn release(block: &mut [u8], o: ObjectId)
 {
     let old = read::slot_at(block, o);
     let x = old.object;
-    let kind = types::object::kind_number(x);
-    if kind == 0 {
+    if types::object::is_free(x) {
         return;
     }
     let n = old.refcount;

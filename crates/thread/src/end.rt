@@ -61,8 +61,7 @@ pub fn is_mutex(s: Slot) -> bool
     ensures { λ r. ⌜ r ≡ eqb (kindNumber (s .object)) 3 ⌝ }
 {
     let o = s.object;
-    let kind = types::object::kind_number(o);
-    kind == 3
+    types::object::is_mutex(o)
 }
 
 pub fn left_by(w: ThreadOption, t: u32) -> ThreadOption

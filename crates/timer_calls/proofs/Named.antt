@@ -1,16 +1,14 @@
 -- The calls that name a timer: what they find, and what they leave once the handle is open. Assumes nothing.
 use mathlib.Core.Path.{_≡_, refl, sym, ap, _∙_}
-use mathlib.Core.Bool.{true}
+use mathlib.Core.Bool.{Bool, true, false, true≢false}
 use mathlib.Core.List.{List}
-use mathlib.Core.Logic.{_≢_}
 use Prim.Native.Nat.{ℕ}
-use native.Mathlib.Omega.{arith}
 use Rattle.types.specs.declared.object.KObject.{KObject}
 use Rattle.types.specs.declared.object.KObject.the-variants.{Free, Thread, Event, Mutex, Semaphore, Timer, AddressArbiter, Process, ResourceLimit}
 use Rattle.types.specs.declared.sync.Timer as ti
 use Rattle.types.specs.declared.object.Slot.{Slot}
 use Rattle.types.specs.declared.kernel.Kernel.{Kernel}
-use Rattle.types.specs.Object.{kindNumber}
+use Rattle.types.specs.Tests.{timer?}
 use Rattle.block.specs.Block.{decBlock}
 use Rattle.sound.specs.View.{slotAt, objectAt}
 use Rattle.sound.specs.Question.{sound?}
@@ -28,27 +26,27 @@ use Rattle.timer_calls.specs.Kinds.{timerOf}
 use Rattle.timer_calls.specs.Named.{setOpened, changed}
 
 -- ---- an object of another kind, and one of the kind
-timer-other : (x : KObject) (k : Kernel) (o a b tick : ℕ) → kindNumber x ≢ 5 → answers 16 k ≡ setTimerAs x k o a b tick
+timer-other : (x : KObject) (k : Kernel) (o a b tick : ℕ) → timer? x ≡ false → answers 16 k ≡ setTimerAs x k o a b tick
 timer-other (Free n) k o a b tick h = refl
 timer-other (Thread t) k o a b tick h = refl
 timer-other (Event e) k o a b tick h = refl
 timer-other (Mutex m) k o a b tick h = refl
 timer-other (Semaphore s) k o a b tick h = refl
-timer-other (Timer t) k o a b tick h = absurd (h refl)
+timer-other (Timer t) k o a b tick h = absurd (true≢false h)
 timer-other (AddressArbiter x) k o a b tick h = refl
 timer-other Process k o a b tick h = refl
 timer-other ResourceLimit k o a b tick h = refl
 
-timer-one : (x : KObject) (k : Kernel) (o a b tick : ℕ) → kindNumber x ≡ 5 → done (withObjects k (content (k .objects) o (Timer (setTo (timerOf x) a b tick)))) ≡ setTimerAs x k o a b tick
-timer-one (Free n) k o a b tick h = absurd (omega (arith, h))
-timer-one (Thread t) k o a b tick h = absurd (omega (arith, h))
-timer-one (Event e) k o a b tick h = absurd (omega (arith, h))
-timer-one (Mutex m) k o a b tick h = absurd (omega (arith, h))
-timer-one (Semaphore s) k o a b tick h = absurd (omega (arith, h))
+timer-one : (x : KObject) (k : Kernel) (o a b tick : ℕ) → timer? x ≡ true → done (withObjects k (content (k .objects) o (Timer (setTo (timerOf x) a b tick)))) ≡ setTimerAs x k o a b tick
+timer-one (Free n) k o a b tick h = absurd (true≢false (sym h))
+timer-one (Thread t) k o a b tick h = absurd (true≢false (sym h))
+timer-one (Event e) k o a b tick h = absurd (true≢false (sym h))
+timer-one (Mutex m) k o a b tick h = absurd (true≢false (sym h))
+timer-one (Semaphore s) k o a b tick h = absurd (true≢false (sym h))
 timer-one (Timer t) k o a b tick h = refl
-timer-one (AddressArbiter x) k o a b tick h = absurd (omega (arith, h))
-timer-one Process k o a b tick h = absurd (omega (arith, h))
-timer-one ResourceLimit k o a b tick h = absurd (omega (arith, h))
+timer-one (AddressArbiter x) k o a b tick h = absurd (true≢false (sym h))
+timer-one Process k o a b tick h = absurd (true≢false (sym h))
+timer-one ResourceLimit k o a b tick h = absurd (true≢false (sym h))
 
 -- ---- what is found is what opening the handle found
 set-finding : (x : KObject) (k : Kernel) (o a b tick : ℕ) → finding (setTimerAs x k o a b tick .kernel) ≡ finding k
@@ -107,16 +105,16 @@ module _ (b : List ℕ) (s : sound? b ≡ true) (o : ℕ) (x : Slot) (ex : x ≡
   pub put-changed : (f : KObject → KObject) (y : KObject) → y ≡ f (x .object) → Holds (slotPut b o (withObject x y)) (changed f j o)
   put-changed f y e = rw (e ∙ ap f same-object) (put-content (holds b s) o x (f (objectAt (j .objects) o)) ex)
 
-  module _ (n : ℕ) (en : n ≡ kindNumber (x .object)) (r : Registers) (tick : ℕ) where
-    pub set-other : n ≢ 5 → (answered 16 ≡ accepted (setOpened j o r tick)) × Holds b (setOpened j o r tick .kernel)
+  module _ (n : Bool) (en : n ≡ timer? (x .object)) (r : Registers) (tick : ℕ) where
+    pub set-other : n ≡ false → (answered 16 ≡ accepted (setOpened j o r tick)) × Holds b (setOpened j o r tick .kernel)
     set-other z =
-        let e : answers 16 j ≡ setOpened j o r tick = timer-other (objectAt (j .objects) o) j o _ _ tick (λ w. z (en ∙ ap kindNumber same-object ∙ w)) in
+        let e : answers 16 j ≡ setOpened j o r tick = timer-other (objectAt (j .objects) o) j o _ _ tick (sym (ap timer? same-object) ∙ sym en ∙ z) in
         (ap accepted e, rw (← e) (holds b s))
 
-    pub set-one : n ≡ 5 → (t : ti.Timer) → t ≡ setTo (timerOf (x .object)) (notBelow (pair (r .r2) (r .r3))) (notBelow (pair (r .r1) (r .r4))) tick
+    pub set-one : n ≡ true → (t : ti.Timer) → t ≡ setTo (timerOf (x .object)) (notBelow (pair (r .r2) (r .r3))) (notBelow (pair (r .r1) (r .r4))) tick
         → (answered 0 ≡ accepted (setOpened j o r tick)) × Holds (slotPut b o (withObject x (Timer t))) (setOpened j o r tick .kernel)
     set-one z t et =
         let u : t ≡ setTo (timerOf (objectAt (j .objects) o)) (notBelow (pair (r .r2) (r .r3))) (notBelow (pair (r .r1) (r .r4))) tick = et ∙ ap (λ (y : KObject). setTo (timerOf y) (notBelow (pair (r .r2) (r .r3))) (notBelow (pair (r .r1) (r .r4))) tick) same-object in
         let e : done (withObjects j (content (j .objects) o (Timer t))) ≡ setOpened j o r tick =
-        ap (λ (y : ti.Timer). done (withObjects j (content (j .objects) o (Timer y)))) u ∙ timer-one (objectAt (j .objects) o) j o (notBelow (pair (r .r2) (r .r3))) (notBelow (pair (r .r1) (r .r4))) tick (sym (ap kindNumber same-object) ∙ sym en ∙ z) in
+        ap (λ (y : ti.Timer). done (withObjects j (content (j .objects) o (Timer y)))) u ∙ timer-one (objectAt (j .objects) o) j o (notBelow (pair (r .r2) (r .r3))) (notBelow (pair (r .r1) (r .r4))) tick (sym (ap timer? same-object) ∙ sym en ∙ z) in
         (ap accepted e, rw (← e) (put-content (holds b s) o x (Timer t) ex))

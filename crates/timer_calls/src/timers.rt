@@ -51,7 +51,7 @@ fn set_opened(block: &mut [u8], o: ObjectId, r: Registers, tick: Ticks) -> Outco
 {
     let x = read::slot_at(block, o);
     let old = x.object;
-    if types::object::kind_number(old) != 5 {
+    if !types::object::is_timer(old) {
         return outcome::answers(16);
     }
     let t = set::set_by(old, r, tick);

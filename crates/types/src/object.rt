@@ -8,6 +8,7 @@ use units::Handle;
 use units::ObjectId;
 ghost use mathlib.Core.Path.{_≡_};
 ghost use Rattle.types.specs.Object.{kindNumber, nextOf, headOf};
+ghost use Rattle.types.specs.Tests.{free?, mutex?, timer?};
 
 pub enum KObject {
     // A dead slot, with the next of the free chain.
@@ -81,6 +82,54 @@ pub fn kind_number(o: KObject) -> u32
         KObject::AddressArbiter(_a) => 6,
         KObject::Process => 7,
         KObject::ResourceLimit => 8,
+    }
+}
+
+pub fn is_free(o: KObject) -> bool
+    ensures { λ r. ⌜ r ≡ free? o ⌝ }
+{
+    match o {
+        KObject::Free(_next) => true,
+        KObject::Thread(_t) => false,
+        KObject::Event(_e) => false,
+        KObject::Mutex(_m) => false,
+        KObject::Semaphore(_s) => false,
+        KObject::Timer(_t) => false,
+        KObject::AddressArbiter(_a) => false,
+        KObject::Process => false,
+        KObject::ResourceLimit => false,
+    }
+}
+
+pub fn is_mutex(o: KObject) -> bool
+    ensures { λ r. ⌜ r ≡ mutex? o ⌝ }
+{
+    match o {
+        KObject::Free(_next) => false,
+        KObject::Thread(_t) => false,
+        KObject::Event(_e) => false,
+        KObject::Mutex(_m) => true,
+        KObject::Semaphore(_s) => false,
+        KObject::Timer(_t) => false,
+        KObject::AddressArbiter(_a) => false,
+        KObject::Process => false,
+        KObject::ResourceLimit => false,
+    }
+}
+
+pub fn is_timer(o: KObject) -> bool
+    ensures { λ r. ⌜ r ≡ timer? o ⌝ }
+{
+    match o {
+        KObject::Free(_next) => false,
+        KObject::Thread(_t) => false,
+        KObject::Event(_e) => false,
+        KObject::Mutex(_m) => false,
+        KObject::Semaphore(_s) => false,
+        KObject::Timer(_t) => true,
+        KObject::AddressArbiter(_a) => false,
+        KObject::Process => false,
+        KObject::ResourceLimit => false,
     }
 }
 

@@ -3,6 +3,7 @@ use units::ObjectId;
 use units::Ticks;
 ghost use mathlib.Core.Path.{_≡_};
 ghost use Rattle.types.specs.Thread.{threadFlag, threadValue, threadOption, tickFlag, tickValue, tickOption, addressFlag, addressValue, addressOption, statusNumber, statusOf, isBlocked, isDead, resultNumber, resultIndex, resultOf, syscallNumber, syscallOf};
+ghost use Rattle.types.specs.Tests.{noResult?, noSyscall?};
 
 // A thread number, or none.
 pub enum ThreadOption {
@@ -238,6 +239,16 @@ pub fn result_number(r: WaitResult) -> u32
     }
 }
 
+pub fn no_result(r: WaitResult) -> bool
+    ensures { λ v. ⌜ v ≡ noResult? r ⌝ }
+{
+    match r {
+        WaitResult::NoResult => true,
+        WaitResult::Signaled(_i) => false,
+        WaitResult::TimedOut => false,
+    }
+}
+
 pub fn result_index(r: WaitResult) -> u32
     ensures { λ v. ⌜ v ≡ resultIndex r ⌝ }
 {
@@ -267,6 +278,18 @@ pub fn syscall_number(s: WaitSyscall) -> u32
         WaitSyscall::WaitSynchronizationN => 2,
         WaitSyscall::ArbitrateAddress => 3,
         WaitSyscall::SleepThread => 4,
+    }
+}
+
+pub fn no_syscall(s: WaitSyscall) -> bool
+    ensures { λ r. ⌜ r ≡ noSyscall? s ⌝ }
+{
+    match s {
+        WaitSyscall::NoSyscall => true,
+        WaitSyscall::WaitSynchronization1 => false,
+        WaitSyscall::WaitSynchronizationN => false,
+        WaitSyscall::ArbitrateAddress => false,
+        WaitSyscall::SleepThread => false,
     }
 }
 

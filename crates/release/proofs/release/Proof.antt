@@ -13,8 +13,8 @@ slot-at-requires : tie.Need-slot-at-requires
 slot-at-requires c κs = search needs
 
 -- src/lib.rt:86:9
-kind-number-requires : tie.Need-kind-number-requires
-kind-number-requires c κs = search needs
+is-free-requires : tie.Need-is-free-requires
+is-free-requires c κs = search needs
 
 -- src/lib.rt:88:9
 same-length : tie.Need-same-length
@@ -24,7 +24,7 @@ same-length c = search needs
 returns : tie.Need-returns
 returns c = let b = c .before .before .before .before .before .args .block .now in
     let k = decBlock b in
-    let e = released-dead b (c .before .before .before .before .before .pre .1) (c .before .before .before .before .before .args .o .0) (c .before .before .slot-at .result) (c .before .before .slot-at .ensures) (sym (c .before .kind-number .ensures) ∙ c .if1 .taken) in
+    let e = released-dead b (c .before .before .before .before .before .pre .1) (c .before .before .before .before .before .args .o .0) (c .before .before .slot-at .result) (c .before .before .slot-at .ensures) (sym (c .before .is-free .ensures) ∙ c .if1 .taken) in
     (ap (withThreads k (k .threads)) (sym e), c .before .before .before .before .before .pre .1)
 
 -- src/lib.rt:92:9
@@ -39,7 +39,7 @@ same-length-2 c = search needs
 returns-2 : tie.Need-returns-2
 returns-2 c = let b = c .before .before .before .before .before .before .before .before .before .before .args .block .now in
     let k = decBlock b in
-    let e = released-last b (c .before .before .before .before .before .before .before .before .before .before .pre .1) (c .before .before .before .before .before .before .before .before .before .before .args .o .0) (c .before .before .before .before .before .before .before .slot-at .result) (c .before .before .before .before .before .before .before .slot-at .ensures) (λ z. c .before .before .before .before .before .if1 .left (c .before .before .before .before .before .before .kind-number .ensures ∙ z)) (c .before .before .before .before .if2 .taken) in
+    let e = released-last b (c .before .before .before .before .before .before .before .before .before .before .pre .1) (c .before .before .before .before .before .before .before .before .before .before .args .o .0) (c .before .before .before .before .before .before .before .slot-at .result) (c .before .before .before .before .before .before .before .slot-at .ensures) (sym (c .before .before .before .before .before .before .is-free .ensures) ∙ c .before .before .before .before .before .if1 .left) (c .before .before .before .before .if2 .taken) in
     released b (c .before .before .before .before .before .before .before .before .before .before .pre .1) (c .before .before .before .before .before .before .before .before .before .before .args .o .0) _ (omega (arith, c .before .before .before .before .before .before .before .before .before .before .good)) (subst (λ s. Holds (c .before .before .free-slot .last .0) (withThreads k (k .threads) s)) (sym e) (c .before .before .free-slot .ensures))
 
 -- src/lib.rt:101:23
@@ -57,14 +57,14 @@ same-length-3 c = search needs
 -- src/lib.rt:78:1
 returns-3 : tie.Need-returns-3
 returns-3 c = let b = c .before .before .before .before .before .before .before .before .before .before .args .block .now in
-    released b (c .before .before .before .before .before .before .before .before .before .before .pre .1) (c .before .before .before .before .before .before .before .before .before .before .args .o .0) _ (omega (arith, c .before .before .before .before .before .before .before .before .before .before .good)) (rw (c .before .before .put-slot .ensures) (released-down b (c .before .before .before .before .before .before .before .before .before .before .pre .1) (c .before .before .before .before .before .before .before .before .before .before .args .o .0) (c .before .before .before .before .before .before .before .slot-at .result) (c .before .before .before .before .before .before .before .slot-at .ensures) (λ z. c .before .before .before .before .before .if1 .left (c .before .before .before .before .before .before .kind-number .ensures ∙ z)) (c .before .before .before .before .if2 .left)))
+    released b (c .before .before .before .before .before .before .before .before .before .before .pre .1) (c .before .before .before .before .before .before .before .before .before .before .args .o .0) _ (omega (arith, c .before .before .before .before .before .before .before .before .before .before .good)) (rw (c .before .before .put-slot .ensures) (released-down b (c .before .before .before .before .before .before .before .before .before .before .pre .1) (c .before .before .before .before .before .before .before .before .before .before .args .o .0) (c .before .before .before .before .before .before .before .slot-at .result) (c .before .before .before .before .before .before .before .slot-at .ensures) (sym (c .before .before .before .before .before .before .is-free .ensures) ∙ c .before .before .before .before .before .if1 .left) (c .before .before .before .before .if2 .left)))
 
 pub release-spec : {M : Type 1} → statement M
 release-spec =
     tie.close
     (tie.spec
     slot-at-requires
-    kind-number-requires
+    is-free-requires
     same-length
     returns
     free-slot-requires
