@@ -25,7 +25,7 @@ C = target/c
 DRIVER = oracle/target/debug/driver
 BUILD = KERNEL_LIB=$(abspath $(KERNEL_LIB)) cargo build --offline --manifest-path oracle/Cargo.toml --target-dir oracle/target
 HOST = host check lent fault exports fresh_block made_block guest_call fresh_start next_event create_thread end_thread schedule asks \
-    dispatch guest_objects collect cases guard refusals
+    dispatch guest_objects collect cases guard refusals twelve
 FLIPS = flips rules fresh_block
 BENCH = bench/bench bench/clock bench/host bench/guest_calls bench/stack tests/made_block tests/fresh_block
 GROWTH = bench/growth bench/clock bench/host tests/made_block tests/fresh_block

@@ -30,19 +30,20 @@ static uint32_t schedule(void)
     return kernel_schedule(block, sizeof block, bank, sizeof bank, processor, sizeof processor, answer, KERNEL_SCHEDULE_LEN, LATE);
 }
 
-static uint8_t handles[32];
+static uint8_t handles[4 * KERNEL_SATISFIED_NOW_LIST];
 static uint32_t satisfied_now(void)
 {
     return kernel_satisfied_now(block, sizeof block, handles, sizeof handles, answer, KERNEL_SATISFIED_NOW_LEN, 1, 0);
 }
 static uint32_t quiet_release(void) { return kernel_quiet_release(block, sizeof block, answer, KERNEL_QUIET_RELEASE_LEN, KERNEL_FIRST_HANDLE, 0); }
 
-/* The last eight open handles. */
+/* The last open handles, as many as kernel_satisfied_now looks at. */
 static int last_handles(void)
 {
+    const uint32_t most = KERNEL_SATISFIED_NOW_LIST;
     uint32_t count = get32(original, HANDLE_COUNT);
-    for (uint32_t i = 0; i < 8; i++)
-        put32(handles, 4 * i, count < 8 ? 0 : get32(original, handle_at(count - 8 + i) + HANDLE));
+    for (uint32_t i = 0; i < most; i++)
+        put32(handles, 4 * i, count < most ? 0 : get32(original, handle_at(count - most + i) + HANDLE));
     return 1;
 }
 

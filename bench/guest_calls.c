@@ -9,13 +9,13 @@ enum { NOWHERE = 9, LIST_WORDS = 8, MILLISECOND = 1000000 };
 
 #define NOTHING 0, {0, 0}, NOWHERE, 0
 #define MUTEX_IN(r) KERNEL_CALL_CREATE_MUTEX, {1, 0}, r, 0
-#define SEMAPHORE_IN(r) KERNEL_CALL_CREATE_SEMAPHORE, {8, 8}, r, 0
+#define SEMAPHORE_IN(r) KERNEL_CALL_CREATE_SEMAPHORE, {KERNEL_WAIT_LIST, KERNEL_WAIT_LIST}, r, 0
 #define EVENT_IN(r) KERNEL_CALL_CREATE_EVENT, {0, 0}, r, 0
 #define TIMER_IN(r) KERNEL_CALL_CREATE_TIMER, {0, 0}, r, 0
 #define ARBITER_IN(r) KERNEL_CALL_CREATE_ADDRESS_ARBITER, {0, 0}, r, 0
 #define RECORDS_IN(r) KERNEL_CALL_CREATE_ADDRESS_ARBITER, {0, 0}, r, 1
 
-/* A wait on one object eight times is a list of eight. */
+/* The longest list names one object in each place. */
 const struct guest_call guest_calls[GUEST_CALLS] = {
     {"08 CreateThread", KERNEL_CALL_CREATE_THREAD, NOTHING, {40, 0x100000, 7, 0x1000, 0}},
     {"09 ExitThread", KERNEL_CALL_EXIT_THREAD, MUTEX_IN(NOWHERE), {0}},
@@ -41,8 +41,10 @@ const struct guest_call guest_calls[GUEST_CALLS] = {
     {"23 CloseHandle, of an arbiter", KERNEL_CALL_CLOSE_HANDLE, RECORDS_IN(0), {0}},
     {"24 WaitSynchronization1, waits", KERNEL_CALL_WAIT_SYNCHRONIZATION1, EVENT_IN(0), {0, 0, MILLISECOND}},
     {"24 WaitSynchronization1, done", KERNEL_CALL_WAIT_SYNCHRONIZATION1, SEMAPHORE_IN(0), {0}},
-    {"25 WaitSynchronizationN, waits", KERNEL_CALL_WAIT_SYNCHRONIZATION_N, EVENT_IN(LIST_WORDS), {MILLISECOND, BASE, 8, 0}},
-    {"25 WaitSynchronizationN, done", KERNEL_CALL_WAIT_SYNCHRONIZATION_N, SEMAPHORE_IN(LIST_WORDS), {0, BASE, 8, 1}},
+    {"25 WaitSynchronizationN, waits", KERNEL_CALL_WAIT_SYNCHRONIZATION_N, EVENT_IN(LIST_WORDS),
+     {MILLISECOND, BASE, KERNEL_WAIT_LIST, 0}},
+    {"25 WaitSynchronizationN, done", KERNEL_CALL_WAIT_SYNCHRONIZATION_N, SEMAPHORE_IN(LIST_WORDS),
+     {0, BASE, KERNEL_WAIT_LIST, 1}},
     {"27 DuplicateHandle", KERNEL_CALL_DUPLICATE_HANDLE, EVENT_IN(1), {0}},
     {"27 DuplicateHandle, of itself", KERNEL_CALL_DUPLICATE_HANDLE, NOTHING, {0, KERNEL_CURRENT_THREAD}},
 };

@@ -4,7 +4,7 @@
 
 #include "kernel.h"
 
-enum { BASE = 0x100000, WINDOW = 32 };
+enum { BASE = 0x100000, WINDOW = 4 * KERNEL_WAIT_LIST };
 
 /* `original` is what a call is made on, `block` the copy that it changes. */
 extern uint8_t original[KERNEL_BLOCK_LEN], block[KERNEL_BLOCK_LEN], bank[KERNEL_BANK_LEN], processor[KERNEL_PROCESSOR_LEN];

@@ -29,7 +29,7 @@ static void heads_over(uint32_t count)
         head(arbiter, 1 + (arbiter - 1) % count);
 }
 
-/* 32 threads, of which all but the first wait on lists of eight; 128 arbiters; 256 handles. The first so many records
+/* 32 threads, of which all but the first wait on the longest list; 128 arbiters; 256 handles. The first so many records
    are one chain, which no arbiter has yet, of the threads in turn and with no address twice; the others are free. */
 static void busy(uint32_t count, uint32_t threads)
 {

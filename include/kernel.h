@@ -49,7 +49,7 @@ extern "C" {
 #define KERNEL_SATISFIED_NOW_LEN 40u
 #define KERNEL_SATISFIED_NOW_FOUND_AT 0u   /* flag: the wait would be satisfied; all else is 0 if not */
 #define KERNEL_SATISFIED_NOW_INDEX_AT 4u   /* the index that the wait would give */
-#define KERNEL_SATISFIED_NOW_OBJECTS_AT 8u /* eight object numbers, unused places 0 */
+#define KERNEL_SATISFIED_NOW_OBJECTS_AT 8u /* KERNEL_SATISFIED_NOW_LIST object numbers, unused places 0 */
 
 #define KERNEL_QUIET_RELEASE_LEN 12u
 #define KERNEL_QUIET_RELEASE_FOUND_AT 0u  /* flag: no pass would be needed; all else is 0 if not */
@@ -85,7 +85,7 @@ extern "C" {
 #define KERNEL_UNSOUND 2u   /* the state block is not sound */
 #define KERNEL_UNKNOWN 3u   /* no such guest call */
 #define KERNEL_NO_THREAD 4u /* no current thread that runs; to end: no such thread, or it is Dead */
-#define KERNEL_LIST 5u      /* more than KERNEL_WAIT_LIST handles in one wait */
+#define KERNEL_LIST 5u      /* more than KERNEL_WAIT_LIST handles in one KERNEL_CALL_WAIT_SYNCHRONIZATION_N */
 #define KERNEL_ADDRESS 6u   /* a guest word outside the window, or not aligned */
 #define KERNEL_FULL 7u      /* no room for a thread, an object, a handle or an arbiter record */
 #define KERNEL_OVERFLOW 8u  /* a number would not fit its type, or the handles are used up */
@@ -97,9 +97,12 @@ extern "C" {
 
 #define KERNEL_THREADS 32u
 #define KERNEL_OBJECTS 128u
-#define KERNEL_HANDLES 256u /* open at a time */
-#define KERNEL_RECORDS 64u  /* of threads parked at addresses, those left by waits that timed out included */
-#define KERNEL_WAIT_LIST 8u /* handles in one wait */
+#define KERNEL_HANDLES 256u  /* open at a time */
+#define KERNEL_RECORDS 64u   /* of threads parked at addresses, those left by waits that timed out included */
+#define KERNEL_WAIT_LIST 12u /* handles in one wait */
+
+/* The most handles that kernel_satisfied_now looks at, which are fewer than a wait may have. */
+#define KERNEL_SATISFIED_NOW_LIST 8u
 
 /* ---- Numbers that guests and hosts pass. */
 
@@ -195,8 +198,9 @@ uint32_t kernel_schedule(uint8_t *block, size_t block_len, uint8_t *bank, size_t
                          size_t processor_len, uint8_t *answer, size_t answer_len, uint64_t tick);
 
 /* What a wait of the current thread on a list of handles, four bytes each, would find at once. It finds nothing if it would not
-   be satisfied, if there is no current thread, if a timer is due by the tick, for more than KERNEL_WAIT_LIST handles, and for a
-   handle that is not open or a pseudo-handle. wait_all is 0 for any of them, else all.
+   be satisfied, if there is no current thread, if a timer is due by the tick, for a handle that is not open or a
+   pseudo-handle, and for more than KERNEL_SATISFIED_NOW_LIST handles, though a wait may have KERNEL_WAIT_LIST. wait_all
+   is 0 for any of them, else all.
    Can refuse: KERNEL_LENGTH, KERNEL_UNSOUND, KERNEL_OVERFLOW. */
 uint32_t kernel_satisfied_now(const uint8_t *block, size_t block_len, const uint8_t *handles, size_t handles_len,
                               uint8_t *answer, size_t answer_len, uint32_t wait_all, uint64_t tick);

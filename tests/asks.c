@@ -9,7 +9,7 @@
 
 #include <string.h>
 
-enum { NONE = 99, FIRST_HANDLE = KERNEL_FIRST_HANDLE };
+enum { NONE = 99, FIRST_HANDLE = KERNEL_FIRST_HANDLE, MOST = KERNEL_SATISFIED_NOW_LIST };
 
 /* What a wait on n handles finds: the index, or NONE; the objects are those of the handles. */
 static void finds(const uint8_t *block, uint32_t n, const uint32_t *handles, const uint32_t *objects, uint32_t all, uint64_t tick, const char *what, uint32_t expected, uint32_t index)
@@ -25,7 +25,7 @@ static void finds(const uint8_t *block, uint32_t n, const uint32_t *handles, con
         check(same(&answer), "%s: refused, and a byte changed", what);
     } else {
         check(get32(answer.at, 0) == (index != NONE) && get32(answer.at, 4) == (index == NONE ? 0 : index), "%s: found %u at %u", what, get32(answer.at, 0), get32(answer.at, 4));
-        for (uint32_t i = 0; i < LIST; i++)
+        for (uint32_t i = 0; i < MOST; i++)
             check(get32(answer.at, 8 + 4 * i) == (index == NONE || i >= n ? 0 : objects[i]), "%s: object %u of place %u", what, get32(answer.at, 8 + 4 * i), i);
     }
     give_back(&answer);
@@ -51,11 +51,11 @@ static void satisfied(void)
     put32(block, slot_at(semaphore) + A, 1);
     const uint32_t h[] = {FIRST_HANDLE + 1, FIRST_HANDLE, FIRST_HANDLE + 2, FIRST_HANDLE + 3, FIRST_HANDLE, FIRST_HANDLE, FIRST_HANDLE, FIRST_HANDLE, FIRST_HANDLE};
     const uint32_t o[] = {event, semaphore, mutex, timer, semaphore, semaphore, semaphore, semaphore};
-    finds(block, 8, h, o, 0, 49, "any of eight", KERNEL_DONE, 1);
-    finds(block, 8, h, o, 2, 49, "all of eight", KERNEL_DONE, NONE);
+    finds(block, MOST, h, o, 0, 49, "any of eight", KERNEL_DONE, 1);
+    finds(block, MOST, h, o, 2, 49, "all of eight", KERNEL_DONE, NONE);
     finds(block, 2, h + 1, o + 1, 1, 49, "all of a semaphore and a mutex", KERNEL_DONE, 0);
-    finds(block, 9, h, o, 0, 49, "nine", KERNEL_DONE, NONE);
-    finds(block, 8, h, o, 0, 50, "a timer is due", KERNEL_DONE, NONE);
+    finds(block, MOST + 1, h, o, 0, 49, "nine", KERNEL_DONE, NONE);
+    finds(block, MOST, h, o, 0, 50, "a timer is due", KERNEL_DONE, NONE);
     const uint32_t odd[] = {FIRST_HANDLE, 0, 0xFFFF8000, 0xFFFF8001, FIRST_HANDLE + 4};
     for (uint32_t i = 1; i < 5; i++)
         finds(block, 2, (const uint32_t[]){odd[0], odd[i]}, o, 0, 49, "a handle that is not open", KERNEL_DONE, NONE);

@@ -72,9 +72,9 @@ static void handles(void)
 
 static void limits(void)
 {
-    group("cases, nine handles, the 33rd thread, the least word");
+    group("cases, thirteen handles, the 33rd thread, the least word");
     start();
-    check(call(KERNEL_CALL_WAIT_SYNCHRONIZATION_N, 1, 0, BASE, 9, 0, 0, 0) == KERNEL_LIST, "nine handles");
+    check(call(KERNEL_CALL_WAIT_SYNCHRONIZATION_N, 1, 0, BASE, 13, 0, 0, 0) == KERNEL_LIST, "thirteen handles");
     put32(window, 8, 0x80000000);
     made(call(KERNEL_CALL_CREATE_ADDRESS_ARBITER, 1, 0, 0, 0, 0, 0, 0), 0x10000);
     check(call(KERNEL_CALL_ARBITRATE_ADDRESS, 1, 0x10000, BASE + 8, 2, 0, 0, 0) == KERNEL_OVERFLOW, "counted down from the least word");

@@ -31,7 +31,7 @@ void test_collect(void)
     running_block(block);
     collects(block, "nothing to collect", block, KERNEL_RESULT_NONE, 0, KERNEL_WAIT_SYSCALL_NONE);
     for (uint32_t result = KERNEL_RESULT_NONE; result <= KERNEL_RESULT_TIMED_OUT; result++)
-        for (uint32_t index = 0; index < (result == KERNEL_RESULT_SIGNALED ? 8u : 1u); index++)
+        for (uint32_t index = 0; index < (result == KERNEL_RESULT_SIGNALED ? KERNEL_WAIT_LIST : 1); index++)
             for (uint32_t call = KERNEL_WAIT_SYSCALL_NONE; call <= KERNEL_WAIT_SYSCALL_SLEEP_THREAD; call++) {
                 running_block(block);
                 /* another thread's stays */

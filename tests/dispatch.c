@@ -133,9 +133,10 @@ static void waits(void)
     any.regs[1] = 3;
     any.regs[3] = 0;
     calls(block, &any, "none, wherever it is", answered(KERNEL_TIMEOUT, block, R0, 0));
-    any.regs[2] = 8;
-    any.regs[1] = BASE + WINDOW - 32;
-    calls(block, &any, "eight unknown handles at the window's end", answered(KERNEL_INVALID_HANDLE, block, R0, 0));
+    memset(any.words, 0, sizeof any.words);
+    any.regs[2] = KERNEL_WAIT_LIST;
+    any.regs[1] = BASE + WINDOW - 4 * KERNEL_WAIT_LIST;
+    calls(block, &any, "unknown handles up to the window's end", answered(KERNEL_INVALID_HANDLE, block, R0, 0));
 }
 
 static void arbitration(void)

@@ -40,7 +40,7 @@ static void statuses(void)
         put32(after, CURRENT_THREAD, 0);
         put32(block, thread + WAIT_ALL, 1);
         put32(block, thread + WAIT_RESULT, 1);
-        put32(block, thread + WAIT_INDEX, 7);
+        put32(block, thread + WAIT_INDEX, LIST - 1);
         put32(block, thread + WAIT_SYSCALL, 4);
         put32(block, thread + HAS_WAIT_ADDRESS, 1);
         put32(block, thread + WAIT_ADDRESS, 0xFFFFFFFC);
@@ -75,6 +75,9 @@ static void holdings(void)
     wait_on(block, thread, arbiter);
     wait_on(block, thread, timer);
     wait_on(block, thread, mine);
+    /* up to the last place of the list */
+    while (get32(block, thread + WAIT_COUNT) + 1 < LIST)
+        wait_on(block, thread, timer);
     wait_on(block, thread, last);
     /* two records in the arbiter, which goes with its last holder */
     put32(block, FIRST_FREE_RECORD, 3);

@@ -155,8 +155,9 @@ static uint32_t lengths(const struct export *e, uint32_t slice, size_t *out)
     size_t right = e->lent[slice].len;
     switch (e->lent[slice].kind) {
     case WINDOW: return from_to(out, from_to(out, 0, 0, 20), KERNEL_WINDOW_MAX - 9, KERNEL_WINDOW_MAX + 9);
-    /* a list has no last length; more than 8 handles find nothing */
-    case HANDLE_LIST: return from_to(out, from_to(out, from_to(out, 0, 0, 41), 4087, 4105), 65527, 65545);
+    /* a list has no last length; every one up to the longest of a wait, which is beyond what is looked at */
+    case HANDLE_LIST:
+        return from_to(out, from_to(out, from_to(out, 0, 0, 4 * KERNEL_WAIT_LIST + 9), 4087, 4105), 65527, 65545);
     default: return right > 13 ? from_to(out, from_to(out, 0, 0, 4), right - 9, right + 9) : from_to(out, 0, 0, right + 9);
     }
 }
@@ -329,8 +330,9 @@ static void word_call(struct lent *l, uint32_t base, uint32_t address, uint32_t 
 
 static void window_words(void)
 {
-    static const size_t lens[] = {0, 4, 8, 12, 32, 36, 64, KERNEL_WINDOW_MAX - 4, KERNEL_WINDOW_MAX};
-    static const uint32_t counts[] = {0, 1, 2, 7, 8};
+    enum { WHOLE = 4 * KERNEL_WAIT_LIST };
+    static const size_t lens[] = {0, 4, 8, 12, WHOLE, WHOLE + 4, WHOLE + 32, KERNEL_WINDOW_MAX - 4, KERNEL_WINDOW_MAX};
+    static const uint32_t counts[] = {0, 1, 2, KERNEL_WAIT_LIST - 1, KERNEL_WAIT_LIST};
     group("kernel_dispatch, words near the window's ends");
     for (size_t k = 0; k < sizeof lens / sizeof *lens; k++)
         for (uint32_t b = 0; b < 6; b++) {
@@ -366,7 +368,7 @@ static void handle_lists(void)
     for (uint32_t n = 1; n <= 64; n++)
         for (int edge = 0; edge < 2; edge++) {
             struct lent l[] = {lend(KERNEL_BLOCK_LEN, BEFORE_UNMAPPED), lend(4 * n, (enum edge)edge), lend(KERNEL_SATISFIED_NOW_LEN, BEFORE_UNMAPPED)};
-            uint32_t number, found = n <= KERNEL_WAIT_LIST;
+            uint32_t number, found = n <= KERNEL_SATISFIED_NOW_LIST;
             mixed_block(l[0].at);
             for (uint32_t i = 0; i < n; i++)
                 put32(l[1].at, 4 * i, i + 1 == n ? SIGNALED_HANDLE : EVENT_HANDLE);

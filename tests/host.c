@@ -21,5 +21,6 @@ int main(void)
     test_guest_objects();
     test_collect();
     test_cases();
+    test_twelve();
     return report();
 }

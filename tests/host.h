@@ -1,4 +1,5 @@
-/* Lent memory of every length, every refusal, each export of the library (the two asks sharing one), and worked cases. */
+/* Lent memory of every length, every refusal, each export of the library (the two asks sharing one), worked cases, and
+   waits of twelve handles. */
 #ifndef HOST_H
 #define HOST_H
 
@@ -14,5 +15,6 @@ void test_dispatch(void);
 void test_guest_objects(void);
 void test_collect(void);
 void test_cases(void);
+void test_twelve(void);
 
 #endif

@@ -7,7 +7,7 @@
  * 3     kernel_dispatch: every other export is one known operation.
  * 4     kernel_dispatch and kernel_collect, which need a thread that runs, and kernel_end_thread, which is given one. A pass,
  *       kernel_satisfied_now and kernel_quiet_release do without a current thread.
- * 5, 6  kernel_dispatch, for calls 0x25 and 0x22. For a lent list of more than 8 handles kernel_satisfied_now finds nothing.
+ * 5, 6  kernel_dispatch, for calls 0x25 and 0x22. For a lent list that is too long kernel_satisfied_now finds nothing.
  * 7     kernel_dispatch and kernel_create_thread: no other export adds a thread, an object, a handle or a record.
  * 8     all but kernel_fresh_start: a next handle above 0xFFFF8000 is enough.
  */
@@ -129,7 +129,7 @@ static void no_records(uint8_t *block)
 }
 
 static void locked_most(uint8_t *block) { put32(block, mixed_slot(MUTEX_HANDLE) + C, 0xFFFFFFFF); }
-static void locked_often(uint8_t *block) { put32(block, mixed_slot(MUTEX_HANDLE) + C, 0xFFFFFFF8); }
+static void locked_often(uint8_t *block) { put32(block, mixed_slot(MUTEX_HANDLE) + C, 0u - KERNEL_WAIT_LIST); }
 static void least_count(uint8_t *block) { put32(block, mixed_slot(SEMAPHORE_HANDLE) + A, 0x80000000); }
 
 /* At the last tick a timer that was due at 0 has had 2^64 periods. */
@@ -328,14 +328,14 @@ static const struct way {
     uint64_t tick; /* 0: the usual one */
 } ways[] = {
 #define LIST(n) KERNEL_CALL_WAIT_SYNCHRONIZATION_N, {0, BASE, n}, SIGNALED_HANDLE, NULL, 0
-    {KERNEL_LIST, "9 handles", LIST(9)},
-    {KERNEL_LIST, "10 handles", LIST(10)},
+    {KERNEL_LIST, "one handle too many", LIST(KERNEL_WAIT_LIST + 1)},
+    {KERNEL_LIST, "two handles too many", LIST(KERNEL_WAIT_LIST + 2)},
     {KERNEL_LIST, "2^30 handles, whose bytes are 0 in 32 bits", LIST(0x40000000)},
     {KERNEL_LIST, "2^31 handles", LIST(0x80000000)},
     {KERNEL_LIST, "2^32 - 1 handles", LIST(0xFFFFFFFF)},
-#define LIST_AT(address) KERNEL_CALL_WAIT_SYNCHRONIZATION_N, {0, address, 8}, SIGNALED_HANDLE, NULL, 0
+#define LIST_AT(address) KERNEL_CALL_WAIT_SYNCHRONIZATION_N, {0, address, KERNEL_WAIT_LIST}, SIGNALED_HANDLE, NULL, 0
     {KERNEL_ADDRESS, "a list before the window", LIST_AT(BASE - 4)},
-    {KERNEL_ADDRESS, "a list past the window's end", LIST_AT(BASE + USUAL_WINDOW - 28)},
+    {KERNEL_ADDRESS, "a list past the window's end", LIST_AT(BASE + USUAL_WINDOW - 4 * KERNEL_WAIT_LIST + 4)},
     {KERNEL_ADDRESS, "a list after the window", LIST_AT(BASE + USUAL_WINDOW)},
     {KERNEL_ADDRESS, "a list that is not aligned", LIST_AT(BASE + 2)},
     {KERNEL_ADDRESS, "a list past 2^32", LIST_AT(0xFFFFFFFC)},
@@ -361,7 +361,8 @@ static const struct way {
     {KERNEL_OVERFLOW, "one less than -2^31, for a time", LEAST_WORD(4)},
     {KERNEL_OVERFLOW, "one lock too many", KERNEL_CALL_WAIT_SYNCHRONIZATION1, {MUTEX_HANDLE}, 0, locked_most, 0},
     {KERNEL_OVERFLOW, "one lock too many, of any", KERNEL_CALL_WAIT_SYNCHRONIZATION_N, {0, BASE, 1, 0}, MUTEX_HANDLE, locked_most, 0},
-    {KERNEL_OVERFLOW, "eight locks, one too many", KERNEL_CALL_WAIT_SYNCHRONIZATION_N, {0, BASE, 8, 1}, MUTEX_HANDLE, locked_often, 0},
+    {KERNEL_OVERFLOW, "a whole list of locks, one too many", KERNEL_CALL_WAIT_SYNCHRONIZATION_N,
+     {0, BASE, KERNEL_WAIT_LIST, 1}, MUTEX_HANDLE, locked_often, 0},
 #define LATE(number, ...) number, {__VA_ARGS__}, SIGNALED_HANDLE, most_periods, UINT64_MAX
     {KERNEL_OVERFLOW, "periods that do not fit", LATE(KERNEL_CALL_SET_TIMER, TIMER_HANDLE)},
     {KERNEL_OVERFLOW, "periods that do not fit", LATE(KERNEL_CALL_CANCEL_TIMER, TIMER_HANDLE)},
@@ -398,11 +399,11 @@ static void ways_of_one(void)
     s.word = 0x80000001;
     gives(DISPATCH, &s, KERNEL_DONE, "one less than -2^31 + 1");
     s = accepted(DISPATCH);
-    s.regs[2] = 8;
+    s.regs[2] = KERNEL_WAIT_LIST;
     s.regs[3] = 1;
     s.word = MUTEX_HANDLE;
-    put32(s.block, mixed_slot(MUTEX_HANDLE) + C, 0xFFFFFFF7);
-    gives(DISPATCH, &s, KERNEL_DONE, "eight locks up to 2^32 - 1");
+    put32(s.block, mixed_slot(MUTEX_HANDLE) + C, 0xFFFFFFFF - KERNEL_WAIT_LIST);
+    gives(DISPATCH, &s, KERNEL_DONE, "a whole list of locks, up to 2^32 - 1");
     s = accepted(SCHEDULE);
     most_periods(s.block);
     s.numbers.tick = UINT64_MAX - 1;
@@ -416,7 +417,7 @@ static void not_sound(struct setup *s) { unsound(s->block); }
 static void unknown_number(struct setup *s) { s->numbers.call = 0x26; }
 static void nobody_runs(struct setup *s) { current_is_ready(s->block); }
 static void nobody_to_end(struct setup *s) { s->numbers.thread = THREADS; }
-static void nine_handles(struct setup *s) { s->regs[2] = 9; }
+static void too_many_handles(struct setup *s) { s->regs[2] = KERNEL_WAIT_LIST + 1; }
 static void list_outside(struct setup *s) { s->regs[1] = BASE + USUAL_WINDOW; }
 static void no_place(struct setup *s) { no_threads(s->block); }
 static void out_of_handles(struct setup *s) { handles_used_up(s->block); }
@@ -431,8 +432,8 @@ static void order(void)
     group("refusals, in their order");
     for (uint32_t e = 0; e < EXPORTS; e++) {
         void (*const spoil[REFUSALS])(struct setup *) = {
-            NULL, too_short, not_sound, unknown_number, e == END_THREAD ? nobody_to_end : nobody_runs, nine_handles, list_outside,
-            e == CREATE_THREAD ? no_place : no_object_for_itself, out_of_handles,
+            NULL, too_short, not_sound, unknown_number, e == END_THREAD ? nobody_to_end : nobody_runs, too_many_handles,
+            list_outside, e == CREATE_THREAD ? no_place : no_object_for_itself, out_of_handles,
         };
         for (const char *first = can_give[e]; *first; first++) {
             struct setup s = accepted(e);

@@ -8,6 +8,7 @@ use svc::Registers;
 use types::sync::ArbitrationOption;
 use types::sync::ArbitrationType;
 use types::thread::TickOption;
+use types::thread::WAIT_LIST;
 use units::Handle;
 use units::Ticks;
 ghost use mathlib.Core.Path.{_≡_};
@@ -21,7 +22,7 @@ ghost use Rattle.outcome.specs.Outcome.{outcome, left};
 ghost use Rattle.arbiter_calls.specs.Kinds.{onHandle, goesOn, signals, waits, waitsAs};
 
 // The word at the address, 0 for a call that reads none.
-fn first_word(words: [u32; 8], n: u32) -> u32
+fn first_word(words: [u32; WAIT_LIST], n: u32) -> u32
     ensures { λ w. ⌜ w ≡ getD (take n words) 0 0 ⌝ }
 {
     if n == 0 {
@@ -164,7 +165,7 @@ fn arbitrate_for(
 pub fn arbitrate_address(
     block: &mut [u8],
     r: Registers,
-    words: [u32; 8],
+    words: [u32; WAIT_LIST],
     n: u32,
     tick: Ticks,
 ) -> Outcome

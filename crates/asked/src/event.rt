@@ -8,6 +8,7 @@ ghost use Prim.Native.Nat.{_≤_, _<_};
 ghost use lib.ListN.{length, getD};
 ghost use Rattle.laws.specs.All.{All};
 ghost use Rattle.laws.specs.Tally.{tallyAll};
+ghost use Rattle.types.specs.Thread.{waitList};
 ghost use Rattle.block.specs.Block.{decBlock};
 ghost use Rattle.sound.specs.View.{noSlot};
 ghost use Rattle.kernel.specs.NextEvent.{nextWake, dueAfter, nextEvent};
@@ -19,7 +20,7 @@ fn look_at_threads(m: &mut [u32; 129], b: &[u8]) -> Earliest
     requires { ⌜ length (now b) ≡ 16384 ⌝ }
     ensures { λ r. ⌜ option r ≡ nextWake TickOption.NoTick (decBlock (now (b .entry)) .threads) ⌝ }
     ensures { λ _. ⌜ now (m .exit) ≡ tallyAll 129 (now (m .entry)) (listsIf (decBlock (now (b .entry)) .threads)) ⌝ }
-    ensures { λ _. ⌜ All (λ t. length (listIf t) ≤ 8) (decBlock (now (b .entry)) .threads) ⌝ }
+    ensures { λ _. ⌜ All (λ t. length (listIf t) ≤ waitList) (decBlock (now (b .entry)) .threads) ⌝ }
 {
     let mut best = Earliest {
         found: 0,

@@ -2,6 +2,7 @@
 use types::thread::Thread;
 use types::thread::ThreadStatus;
 use types::thread::TickOption;
+use types::thread::WAIT_LIST;
 use types::thread::WaitResult;
 use units::ObjectId;
 use units::Ticks;
@@ -30,7 +31,7 @@ pub fn wake_tick(timeout: TickOption, tick: Ticks) -> TickOption
     }
 }
 
-pub fn waiting(t: Thread, l: [ObjectId; 8], n: u32, all: bool, wake: TickOption) -> Thread
+pub fn waiting(t: Thread, l: [ObjectId; WAIT_LIST], n: u32, all: bool, wake: TickOption) -> Thread
     ensures { λ r. ⌜ r ≡ def.waiting t l n all wake ⌝ }
 {
     let since = t.running_since;

@@ -19,12 +19,12 @@ use Rattle.types.specs.declared.object.Slot.{Slot}
 use Rattle.types.specs.declared.object.HandleEntry.{HandleEntry}
 use Rattle.types.specs.declared.object.Waiter.{Waiter}
 use Rattle.types.specs.declared.kernel.Kernel.{Kernel}
-use Rattle.types.specs.Thread.{threadOption}
+use Rattle.types.specs.Thread.{waitList, threadOption}
 use Rattle.block.specs.declared.thread.ThreadWords.{ThreadWords}
 use Rattle.block.specs.declared.slot.ObjectWords.{ObjectWords}
 use Rattle.block.specs.declared.Head.{Head}
 use Rattle.block.specs.Table.{encEntry, decEntry, encWaiter, decWaiter, encId, encIds, decId}
-use Rattle.block.specs.Thread.{threadWords, wordsList, threadW, threadOf, encWords, encThread, decThread}
+use Rattle.block.specs.Thread.{spareBytes, threadWords, wordsList, threadW, threadOf, encWords, encThread, decThread}
 use Rattle.block.specs.Slot.{words, slotW, slotFields, slotOf, encSlot, decSlot}
 use Rattle.block.specs.Block.{headWords, headList, headW, encHead, encBlock, kernelOf, decBlock}
 use Rattle.block.proofs.Row.{length-all}
@@ -138,7 +138,7 @@ slot-bytes x = rw (slot-as x, append-nil) (bytes-encAs slotW (slotFields x))
 
 -- ---- threads
 abbrev pub ThreadFits : Thread → Type 0
-ThreadFits x = Fit threadW (wordsList (threadWords x)) × All IdFits (x .«wait_objects») × (length (x .«wait_objects») ≡ 8)
+ThreadFits x = Fit threadW (wordsList (threadWords x)) × All IdFits (x .«wait_objects») × (length (x .«wait_objects») ≡ waitList)
 
 words-as : (w : ThreadWords) → encWords w ≡ encAs threadW (wordsList w)
 unfolding encWords encAs
@@ -164,20 +164,20 @@ thread-again x = λ i. record {
   «guest_id» = x .«guest_id»;
 }
 
-pub thread-as : (x : Thread) → length (x .«wait_objects») ≡ 8
-    → encThread x ≡ encAs threadW (wordsList (threadWords x)) ++ (encAll encId (x .«wait_objects») ++ replicate 48 0)
+pub thread-as : (x : Thread) → length (x .«wait_objects») ≡ waitList
+    → encThread x ≡ encAs threadW (wordsList (threadWords x)) ++ (encAll encId (x .«wait_objects») ++ replicate spareBytes 0)
 unfolding encThread
-thread-as x e = λ i. words-as (threadWords x) i ++ (sym (encIds-all 8 (x .«wait_objects») e) i ++ replicate 48 0)
+thread-as x e = λ i. words-as (threadWords x) i ++ (sym (encIds-all waitList (x .«wait_objects») e) i ++ replicate spareBytes 0)
 
 pub thread-back : (x : Thread) → ThreadFits x → decThread (encThread x) ≡ x
 unfolding decThread
 thread-back x f =
     let vs = wordsList (threadWords x) in
-    let Z = encAll encId (x .«wait_objects») ++ replicate 48 0 in
+    let Z = encAll encId (x .«wait_objects») ++ replicate spareBytes 0 in
     let W = encAs threadW vs ++ Z in
     let e : decAs threadW W 0 ≡ vs = decAs-enc threadW vs Z (f .0) in
     let d : drop 80 W ≡ Z = drop-at (encAs threadW vs) Z 80 (length-encAs threadW vs) in
-    let l : decAll decId 4 8 W 80 ≡ x .«wait_objects» = ids-at 8 (x .«wait_objects») W 80 (replicate 48 0) d (f .2) (f .1) in
+    let l : decAll decId 4 waitList W 80 ≡ x .«wait_objects» = ids-at waitList (x .«wait_objects») W 80 (replicate spareBytes 0) d (f .2) (f .1) in
     ap decThread (thread-as x (f .2)) ∙ (λ i. threadOf (e i) (l i)) ∙ thread-again x
 
 pub thread-fits : (s : List ℕ) → Bytes s → ThreadFits (decThread s)
@@ -203,17 +203,17 @@ thread-fits s b =
           & tick-value-fits (le 4 s 36) (le 8 s 64) (v 16)
           & v 17
           & tt,
-      all-dec IdFits decId 4 8 s 80 id-fits b,
-      length-decAll decId 4 8 s 80,
+      all-dec IdFits decId 4 waitList s 80 id-fits b,
+      length-decAll decId 4 waitList s 80,
     )
 
 pub thread-bytes : (x : Thread) → Bytes (encThread x)
 unfolding encThread
 thread-bytes x =
-    let I = encIds 8 (x .«wait_objects») in
+    let I = encIds waitList (x .«wait_objects») in
     rw (words-as (threadWords x))
-    (bytes-append (encAs threadW (wordsList (threadWords x))) (I ++ replicate 48 0) (bytes-encAs threadW (wordsList (threadWords x)))
-    (bytes-append I (replicate 48 0) (ids-bytes 8 (x .«wait_objects»)) (bytes-zeros 48)))
+    (bytes-append (encAs threadW (wordsList (threadWords x))) (I ++ replicate spareBytes 0) (bytes-encAs threadW (wordsList (threadWords x)))
+    (bytes-append I (replicate spareBytes 0) (ids-bytes waitList (x .«wait_objects»)) (bytes-zeros spareBytes)))
 
 -- ---- the block
 -- the findings, which no block holds, are down

@@ -1,6 +1,6 @@
 -- A thread record as 160 bytes.
 use mathlib.Core.List.{List, [], _∷_, _++_}
-use Prim.Native.Nat.{ℕ}
+use Prim.Native.Nat.{ℕ, _+_, _-_, _*_}
 use mir.Val.{boolByte}
 use lib.Dec.{eqb}
 use lib.ListN.{getD, replicate}
@@ -10,7 +10,7 @@ use Rattle.codec.specs.Groups.{fourBytes}
 use Rattle.codec.specs.declared.Four.{Four}
 use Rattle.units.specs.declared.ObjectId.{ObjectId}
 use Rattle.types.specs.declared.thread.Thread.{Thread}
-use Rattle.types.specs.Thread.{statusNumber, statusOf, tickFlag, tickValue, tickOption, addressFlag, addressValue, addressOption, resultNumber, resultIndex, resultOf, syscallNumber, syscallOf}
+use Rattle.types.specs.Thread.{waitList, statusNumber, statusOf, tickFlag, tickValue, tickOption, addressFlag, addressValue, addressOption, resultNumber, resultIndex, resultOf, syscallNumber, syscallOf}
 use Rattle.block.specs.declared.thread.ThreadWords.{ThreadWords}
 use Rattle.block.specs.Table.{encIds, decId}
 
@@ -60,8 +60,15 @@ threadOf vs l = record {
 unfoldable pub encWords : ThreadWords → List ℕ
 encWords w = fourBytes (w .a) ++ (fourBytes (w .b) ++ (fourBytes (w .c) ++ (fourBytes (w .d) ++ (bytes 8 (w .«wakeup_at») ++ bytes 8 (w .«running_since»)))))
 
+-- a record has 160 bytes: its numbers, from 80 on its list, and spare bytes
+abbrev pub spareAt : ℕ
+spareAt = 80 + waitList * 4
+
+abbrev pub spareBytes : ℕ
+spareBytes = 160 - spareAt
+
 unfoldable pub encThread : Thread → List ℕ
-encThread x = encWords (threadWords x) ++ (encIds 8 (x .«wait_objects») ++ replicate 48 0)
+encThread x = encWords (threadWords x) ++ (encIds waitList (x .«wait_objects») ++ replicate spareBytes 0)
 
 unfoldable pub decThread : List ℕ → Thread
-decThread s = threadOf (decAs threadW s 0) (decAll decId 4 8 s 80)
+decThread s = threadOf (decAs threadW s 0) (decAll decId 4 waitList s 80)

@@ -2,13 +2,15 @@
 use codec::Two;
 use types::object::HandleEntry;
 use types::object::Waiter;
+use types::thread::WAIT_LIST;
 use units::Handle;
 use units::ObjectId;
 ghost use mathlib.Core.Path.{_≡_};
-ghost use Prim.Native.Nat.{_+_, _≤_};
+ghost use Prim.Native.Nat.{_+_, _*_, _≤_};
 ghost use lib.ListN.{length};
 ghost use Rattle.codec.specs.Bytes.{over};
 ghost use Rattle.codec.specs.Layout.{encAll, decAll};
+ghost use Rattle.types.specs.Thread.{waitList};
 ghost use Rattle.block.specs.Table.{encEntry, decEntry, encWaiter, decWaiter, encId, decId};
 
 pub fn get_entry(s: &[u8]) -> HandleEntry
@@ -119,18 +121,31 @@ pub fn put_waiters(b: &mut [u8], at: usize, l: [Waiter; 64])
     }
 }
 
-pub fn get_ids8(s: &[u8], at: usize) -> [ObjectId; 8]
-    requires { ⌜ at + 32 ≤ length (now s) ⌝ }
-    ensures { λ r. ⌜ r ≡ decAll decId 4 8 (now (s .entry)) at ⌝ }
+pub fn get_list(s: &[u8], at: usize) -> [ObjectId; WAIT_LIST]
+    requires { ⌜ at + waitList * 4 ≤ length (now s) ⌝ }
+    ensures { λ r. ⌜ r ≡ decAll decId 4 waitList (now (s .entry)) at ⌝ }
 {
-    let mut l = [no_id(); 8];
+    let mut l = [no_id(); WAIT_LIST];
     let mut i = 0;
-    while i < 8 {
+    while i < WAIT_LIST {
         let from = at + i * 4;
         l[i] = get_id(&s[from..from + 4]);
         i += 1;
     }
     l
+}
+
+pub fn put_list(b: &mut [u8], at: usize, l: [ObjectId; WAIT_LIST])
+    requires { ⌜ at + waitList * 4 ≤ length (now b) ⌝ }
+    ensures { λ _. ⌜ now (b .exit) ≡ over (now (b .entry)) at (encAll encId l) ⌝ }
+    ensures { λ _. ⌜ length l ≡ waitList ⌝ }
+{
+    let mut i = 0;
+    while i < WAIT_LIST {
+        let from = at + i * 4;
+        put_id(&mut b[from..from + 4], l[i]);
+        i += 1;
+    }
 }
 
 pub fn put_ids8(b: &mut [u8], at: usize, l: [ObjectId; 8])

@@ -5,6 +5,7 @@ use types::thread::AddressOption;
 use types::thread::Thread;
 use types::thread::ThreadStatus;
 use types::thread::TickOption;
+use types::thread::WAIT_LIST;
 use types::thread::WaitResult;
 use types::thread::WaitSyscall;
 use units::ObjectId;
@@ -15,6 +16,13 @@ ghost use lib.ListN.{length};
 ghost use Rattle.codec.specs.Bytes.{over};
 ghost use Rattle.codec.specs.Layout.{decAs, encAll, decAll};
 ghost use Rattle.block.specs.Thread.{threadWords, threadOf, threadW, encWords, encThread, decThread, wordsList};
+
+// A record has 160 bytes: its numbers, from 80 on its list, and spare bytes.
+pub const SPARE_AT: usize = 80 + WAIT_LIST * 4;
+
+pub const SPARE_BYTES: usize = 160 - SPARE_AT;
+
+pub const SPARE_WORDS: usize = SPARE_BYTES / 4;
 
 // A thread's fields but its list, as numbers in the order of the block.
 pub struct ThreadWords {
@@ -60,7 +68,7 @@ pub fn thread_words(x: Thread) -> ThreadWords
     }
 }
 
-pub fn thread_of(w: ThreadWords, l: [ObjectId; 8]) -> Thread
+pub fn thread_of(w: ThreadWords, l: [ObjectId; WAIT_LIST]) -> Thread
     ensures { λ r. ⌜ r ≡ threadOf (wordsList w) l ⌝ }
 {
     let a = w.a;
@@ -110,7 +118,7 @@ pub fn get_thread(s: &[u8]) -> Thread
     requires { ⌜ length (now s) ≡ 160 ⌝ }
     ensures { λ r. ⌜ r ≡ decThread (now (s .entry)) ⌝ }
 {
-    let l = table::get_ids8(s, 80);
+    let l = table::get_list(s, 80);
     thread_of(get_words(s), l)
 }
 
@@ -136,8 +144,8 @@ pub fn put_thread(b: &mut [u8], x: Thread)
 {
     put_words(b, thread_words(x));
     let l = x.wait_objects;
-    table::put_ids8(b, 80, l);
-    codec::put_zeros(b, 112, 48);
+    table::put_list(b, 80, l);
+    codec::put_zeros(b, SPARE_AT, SPARE_BYTES);
 }
 
 // What the table is filled with before it is read from the block: every place is written, so it is left open.
@@ -149,7 +157,7 @@ fn no_thread() -> Thread {
         stack_top: 0,
         tls: 0,
         processor_id: 0,
-        wait_objects: [ObjectId(0); 8],
+        wait_objects: [ObjectId(0); WAIT_LIST],
         wait_count: 0,
         wait_all: false,
         wakeup_at: TickOption::NoTick,

@@ -3,7 +3,7 @@ use mathlib.Core.Path.{_≡_, refl, sym, ap, _∙_}
 use mathlib.Core.Bool.{Bool, true, false}
 use mathlib.Core.Logic.{_≢_}
 use mathlib.Core.List.{List, [], _∷_, _++_, append-nil}
-use Prim.Native.Nat.{ℕ, _+_, _<_}
+use Prim.Native.Nat.{ℕ, _+_, _<_, _*_}
 use native.Mathlib.Omega.{arith}
 use mir.Val.{boolByte}
 use lib.Dec.{eqb, ltb}
@@ -20,12 +20,12 @@ use Rattle.codec.proofs.Fit.{length-decAll, word-whole, part-join}
 use Rattle.codec.proofs.Rows.{length-encAs}
 use Rattle.codec.proofs.Same.{length-part, same-append, same-cut, same-fields}
 use Rattle.types.specs.declared.kernel.Kernel.{Kernel}
-use Rattle.types.specs.Thread.{threadFlag, threadValue, threadOption}
+use Rattle.types.specs.Thread.{waitList, threadFlag, threadValue, threadOption}
 use Rattle.block.specs.declared.slot.ObjectWords.{ObjectWords}
 use Rattle.block.specs.declared.Head.{Head}
 use Rattle.block.specs.Table.{encEntry, decEntry, encWaiter, decWaiter, encId, decId}
 use Rattle.block.specs.Slot.{objectWords, objectOf, slotW, slotWords, slotList, slotFields, encSlot, decSlot}
-use Rattle.block.specs.Thread.{threadWords, wordsList, threadW, encThread, decThread}
+use Rattle.block.specs.Thread.{spareAt, spareBytes, threadWords, wordsList, threadW, encThread, decThread}
 use Rattle.block.specs.Block.{headWords, encHead, encBlock, decBlock}
 use Rattle.block.proofs.Sizes.{length-encId, length-encEntry, length-encWaiter, length-encSlot, length-encThread, length-encHead}
 use Rattle.block.proofs.Row.{length-all}
@@ -117,20 +117,20 @@ slot-parts s b e =
 -- ---- threads
 -- the words, and what is spare
 pub thread-parts : (s : List ℕ) → Bytes s → length s ≡ 160
-    → same s (encThread (decThread s)) ≡ same (decAs threadW s 0) (wordsList (threadWords (decThread s))) and same (take 48 (drop 112 s)) (replicate 48 0)
+    → same s (encThread (decThread s)) ≡ same (decAs threadW s 0) (wordsList (threadWords (decThread s))) and same (take spareBytes (drop spareAt s)) (replicate spareBytes 0)
 unfolding decThread rows?
 thread-parts s b e =
     let x = decThread s in
     let vs = wordsList (threadWords x) in
     let ids = encAll encId (x .«wait_objects») in
-    let Z : List ℕ = replicate 48 0 in
-    let n = length-decAll decId 4 8 s 80 in
+    let Z : List ℕ = replicate spareBytes 0 in
+    let n = length-decAll decId 4 waitList s 80 in
     let c : same s (encAs threadW vs ++ (ids ++ Z)) ≡ same (take 80 s) (encAs threadW vs) and same (drop 80 s) (ids ++ Z) = same-cut s (encAs threadW vs) (ids ++ Z) 0 80 (length-encAs threadW vs) (omega arith) in
-    let d : same (drop 80 s) (ids ++ Z) ≡ same (take 32 (drop 80 s)) ids and same (drop 112 s) Z = same-cut s ids Z 80 32 (length-all encId 4 length-encId 8 (x .«wait_objects») n) (omega arith) in
+    let d : same (drop 80 s) (ids ++ Z) ≡ same (take (waitList * 4) (drop 80 s)) ids and same (drop spareAt s) Z = same-cut s ids Z 80 (waitList * 4) (length-all encId 4 length-encId waitList (x .«wait_objects») n) (omega arith) in
     let f : same (take 80 s) (encAs threadW vs) ≡ same (decAs threadW s 0) vs = same-fields threadW vs s 0 b (omega arith) (thread-fits s b .0) in
-    let i : same (take 32 (drop 80 s)) ids ≡ true = rows-all encId decId 4 id-whole 8 s 80 b (omega arith) in
-    let z : drop 112 s ≡ take 48 (drop 112 s) = sym (take-all 48 (drop 112 s) (rw length-drop (omega arith))) in
-    let g = d ∙ and-yes _ (same (drop 112 s) Z) i ∙ ap (λ t. same t Z) z in
+    let i : same (take (waitList * 4) (drop 80 s)) ids ≡ true = rows-all encId decId 4 id-whole waitList s 80 b (omega arith) in
+    let z : drop spareAt s ≡ take spareBytes (drop spareAt s) = sym (take-all spareBytes (drop spareAt s) (rw length-drop (omega arith))) in
+    let g = d ∙ and-yes _ (same (drop spareAt s) Z) i ∙ ap (λ t. same t Z) z in
     ap (same s) (thread-as x n) ∙ c ∙ (λ j. f j and g j)
 
 -- ---- the head

@@ -1,6 +1,9 @@
 // The thread records.
+use block::thread::SPARE_AT;
+use block::thread::SPARE_WORDS;
 use block::thread::ThreadWords;
 use codec::Four;
+use types::thread::WAIT_LIST;
 use units::ObjectId;
 ghost use mathlib.Core.Path.{_≡_};
 ghost use lib.ListN.{length};
@@ -59,12 +62,12 @@ fn thread_same(s: &[u8]) -> bool
     ensures { λ r. ⌜ r ≡ same (now (s .entry)) (encThread (decThread (now (s .entry)))) ⌝ }
 {
     let w = block::thread::get_words(s);
-    let l = [ObjectId(0); 8];
+    let l = [ObjectId(0); WAIT_LIST];
     let again = block::thread::thread_words(block::thread::thread_of(w, l));
     if !same_words(w, again) {
         return false;
     }
-    codec::zero_words(s, 112, 12)
+    codec::zero_words(s, SPARE_AT, SPARE_WORDS)
 }
 
 pub fn threads_same(b: &[u8]) -> bool

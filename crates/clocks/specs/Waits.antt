@@ -13,6 +13,7 @@ use Rattle.types.specs.declared.thread.WaitSyscall.{WaitSyscall}
 use Rattle.types.specs.declared.thread.WaitSyscall.the-variants.{WaitSynchronization1, WaitSynchronizationN}
 use Rattle.types.specs.declared.object.ObjectStore.{ObjectStore}
 use Rattle.types.specs.declared.kernel.Kernel.{Kernel}
+use Rattle.types.specs.Thread.{waitList}
 use Rattle.units.specs.declared.ObjectId.{ObjectId}
 use Rattle.sound.specs.View.{ids, objectAt}
 use Rattle.kernel.specs.NextEvent.{contains}
@@ -68,7 +69,7 @@ unless-leaves : (k : Kernel) (c : ℕ) (os : List ℕ) (all : Bool) (nanos tick 
 unfolding beginWait
 unless-leaves k c os all nanos tick call =
     pick-both (λ (v : Served). Leaves (k .objects) (v .kernel .objects)) (eqb nanos 0) _ (waitOn k c os all nanos tick call) (leaves-same (k .objects))
-    (begin-as (k .«current_thread») k (padded 8 os) (length os) all (waitTime nanos) tick)
+    (begin-as (k .«current_thread») k (padded waitList os) (length os) all (waitTime nanos) tick)
 
 one-leaves : (c : ThreadOption) (k : Kernel) (q nanos tick : ℕ) → Leaves (k .objects) (wait1As c k q nanos tick .kernel .objects)
 one-leaves NoThread k q nanos tick = leaves-same (k .objects)

@@ -25,7 +25,7 @@ use Rattle.types.specs.declared.object.KObject.the-variants.{Thread, Process}
 use Rattle.types.specs.declared.object.HandleTable.{HandleTable}
 use Rattle.types.specs.declared.object.ObjectStore.{ObjectStore}
 use Rattle.types.specs.declared.kernel.Kernel.{Kernel}
-use Rattle.types.specs.Thread.{isBlocked}
+use Rattle.types.specs.Thread.{waitList, isBlocked}
 use Rattle.types.specs.Sync.{arbitrationFromRaw}
 use Rattle.sound.specs.View.{ids, objectAt, threadAt}
 use Rattle.sound.specs.Objects.{keptAt}
@@ -228,17 +228,17 @@ module _ (k : Kernel) (all : Bool) (hs : List ℕ) where
   left : (k′ : Kernel) → Same k k′ → AsksNamed k all hs k′
   left k′ s c e r b = not-parked k k′ s c e r b
 
-  module _ (os : List ℕ) (few : length os ≤ 8) (found : map (named (k .«current_thread») (k .handles) (k .objects)) hs ≡ os) (n tick : ℕ) where
+  module _ (os : List ℕ) (few : length os ≤ waitList) (found : map (named (k .«current_thread») (k .handles) (k .objects)) hs ≡ os) (n tick : ℕ) where
     on-asks : (d : ℕ) (w : WaitSyscall) → AsksNamed k all hs (waitOn k d os all n tick w .kernel)
     unfolding beginWait
     on-asks d w c e r b =
-        let m : Kernel = beginWait k (padded 8 os) (length os) all (waitTime n) tick in
+        let m : Kernel = beginWait k (padded waitList os) (length os) all (waitTime n) tick in
         let g : map (named (SomeThread c) (k .handles) (m .objects)) hs ≡ os =
-        named-as (k .objects) (m .objects) (begin-kept (k .«current_thread») k (padded 8 os) (length os) all (waitTime n) tick) (SomeThread c) (k .handles) hs
+        named-as (k .objects) (m .objects) (begin-kept (k .«current_thread») k (padded waitList os) (length os) all (waitTime n) tick) (SomeThread c) (k .handles) hs
         ∙ ap (λ (x : ThreadOption). map (named x (k .handles) (k .objects)) hs) (sym e) ∙ found in
         thread-f awaitedBy (m .threads) d _ c refl
-        ∙ ap awaitedBy (begin-own k c e (running-in (k .threads) c r) (padded 8 os) (length os) all (waitTime n) tick)
-        ∙ ap (λ (l : List ℕ). objects all l) (padded-first 8 os few ∙ sym g)
+        ∙ ap awaitedBy (begin-own k c e (running-in (k .threads) c r) (padded waitList os) (length os) all (waitTime n) tick)
+        ∙ ap (λ (l : List ℕ). objects all l) (padded-first waitList os few ∙ sym g)
 
     unless-asks : (d : ℕ) (w : WaitSyscall) → AsksNamed k all hs (waitUnless k d os all n tick w .kernel)
     unless-asks d w = pick-both (λ (x : Served). AsksNamed k all hs (x .kernel)) (eqb n 0) _ (waitOn k d os all n tick w) (left k (record { threads = refl; relief = refl })) (on-asks d w)
@@ -266,7 +266,7 @@ wait1-asks k r tick =
     pick-both (λ (y : Served). AsksNamed k false (r .r0 ∷ []) (y .kernel)) (eqb (x .object .0) 0) _ _ (left k false (r .r0 ∷ []) (withObjects c (x .store)) (record { threads = refl; relief = refl }))
     (wait1-as (c .«current_thread») (withObjects c (x .store)) (r .r0) (x .object .0) (pair (r .r2) (r .r3)) tick (own-named (k .«current_thread») (k .handles) (c .objects) (r .r0)))
 
-waitN-asks : (k : Kernel) (r : Registers) (words : List ℕ) (tick : ℕ) → length words ≤ 8 → AsksNamed k (not (eqb (r .r3) 0)) words (waitSynchronizationN k r words tick .kernel)
+waitN-asks : (k : Kernel) (r : Registers) (words : List ℕ) (tick : ℕ) → length words ≤ waitList → AsksNamed k (not (eqb (r .r3) 0)) words (waitSynchronizationN k r words tick .kernel)
 unfolding waitSynchronizationN
 waitN-asks k r words tick few =
     let c : Kernel = caughtUp k tick in
@@ -278,7 +278,7 @@ waitN-asks k r words tick few =
     (all-named (k .«current_thread») (k .handles) words (c .objects) e) (pair (r .r0) (r .r4)) tick (c .«current_thread»))
 
 -- ---- every call that begins a timed wait
-pub call-asks : (number : ℕ) (k : Kernel) (r : Registers) (words : List ℕ) (tick : ℕ) → (eqb number 0x25 ≡ true → length words ≤ 8) → timedWait? number r ≡ true → runs? k ≡ true
+pub call-asks : (number : ℕ) (k : Kernel) (r : Registers) (words : List ℕ) (tick : ℕ) → (eqb number 0x25 ≡ true → length words ≤ waitList) → timedWait? number r ≡ true → runs? k ≡ true
     → (c : ℕ) → k .«current_thread» ≡ SomeThread c → Blocked (call number k r words tick .kernel .threads) c
     → awaitedBy (threadAt (call number k r words tick .kernel .threads) c) ≡ asksFor number r words (named (SomeThread c) (k .handles) (call number k r words tick .kernel .objects))
 unfolding timedWait? call _or_ _and_

@@ -6,6 +6,7 @@ use Prim.Native.Nat.{_≤_, _<_}
 use lib.Dec.{eqb}
 use lib.ListN.{length}
 use Rattle.types.specs.declared.kernel.Kernel.{Kernel}
+use Rattle.types.specs.Thread.{waitList}
 use Rattle.sound.specs.Sound.{Sound}
 use Rattle.thread.specs.Threads as thread
 use Rattle.kernel.specs.Fresh.{fresh}
@@ -31,7 +32,7 @@ Asked (creates entry stack priority processor) k = Sound k
 Asked (passes tick) k = Sound k × (tick < 18446744073709551616)
 Asked looks k = Sound k
 Asked (ends t) k = Sound k
-Asked (calls number r words tick) k = Sound k × (runs? k ≡ true) × (tick < 18446744073709551616) × (eqb number 0x25 ≡ true → length words ≤ 8)
+Asked (calls number r words tick) k = Sound k × (runs? k ≡ true) × (tick < 18446744073709551616) × (eqb number 0x25 ≡ true → length words ≤ waitList)
 Asked collects k = Sound k
 
 -- an operation that was refused left the state, and one that was accepted did what it does, on a sound state, and left one

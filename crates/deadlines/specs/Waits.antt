@@ -16,6 +16,7 @@ use Rattle.types.specs.declared.thread.WaitSyscall.the-variants.{WaitSynchroniz
 use Rattle.types.specs.declared.thread.Thread.{Thread}
 use Rattle.types.specs.declared.object.ObjectStore.{ObjectStore}
 use Rattle.types.specs.declared.kernel.Kernel.{Kernel}
+use Rattle.types.specs.Thread.{waitList}
 use Rattle.sound.specs.View.{objectAt}
 use Rattle.object.specs.declared.kept.Resolved.{Resolved}
 use Rattle.soundness.specs.Slots.{pick-both}
@@ -50,16 +51,16 @@ wait-time n tick t =
 on-effect : (k : Kernel) (c : ℕ) (os : List ℕ) (all : Bool) (n tick : ℕ) (call : WaitSyscall) → Waits k n tick (waitOn k c os all n tick call)
 unfolding contains
 on-effect k c os all n tick call =
-    let b : Kernel = beginWait k (padded 8 os) (length os) all (waitTime n) tick in
+    let b : Kernel = beginWait k (padded waitList os) (length os) all (waitTime n) tick in
     record {
-      waits = λ w x h e. thread-f waitOf (b .threads) c _ w refl ∙ ap waitOf (begin-other k (padded 8 os) (length os) all (waitTime n) tick w h);
+      waits = λ w x h e. thread-f waitOf (b .threads) c _ w refl ∙ ap waitOf (begin-other k (padded waitList os) (length os) all (waitTime n) tick w h);
       wakes = λ w e. false-true e;
       parked = λ d e x y. refl;
       wake = λ d e x y t s.
           thread-f (λ (z : Thread). z .«wakeup_at») (b .threads) c _ d refl
-          ∙ ap (λ (z : Thread). z .«wakeup_at») (begin-own k d e (running-in (k .threads) d x) (padded 8 os) (length os) all (waitTime n) tick)
+          ∙ ap (λ (z : Thread). z .«wakeup_at») (begin-own k d e (running-in (k .threads) d x) (padded waitList os) (length os) all (waitTime n) tick)
           ∙ wait-time n tick s;
-      relief = begin-relief k (padded 8 os) (length os) all (waitTime n) tick;
+      relief = begin-relief k (padded waitList os) (length os) all (waitTime n) tick;
     }
 
 -- no thread is touched

@@ -1,6 +1,7 @@
 // The calls by number (`dispatch` of svc.rs). A call changes the block where it lies.
 use outcome::Outcome;
 use svc::Registers;
+use types::thread::WAIT_LIST;
 use units::Ticks;
 ghost use mathlib.Core.Path.{_≡_};
 ghost use mathlib.Core.Bool.{true};
@@ -24,7 +25,7 @@ pub fn call(
     block: &mut [u8],
     number: u32,
     r: Registers,
-    words: [u32; 8],
+    words: [u32; WAIT_LIST],
     n: u32,
     tick: Ticks,
 ) -> Outcome

@@ -9,6 +9,7 @@ use Rattle.laws.specs.All.{All}
 use Rattle.laws.specs.Tally.{tallyAll}
 use Rattle.types.specs.declared.object.Slot.{Slot}
 use Rattle.types.specs.declared.kernel.Kernel.{Kernel}
+use Rattle.types.specs.Thread.{waitList}
 use Rattle.block.specs.Block.{encBlock, decBlock}
 use Rattle.block.proofs.Fits.{block-back}
 use Rattle.sound.specs.Sound.{Sound}
@@ -56,7 +57,7 @@ module _ (s : List ℕ) (tick : ℕ) where
     pub back : (b : List ℕ) → b ≡ encBlock (caughtUp k tick) → (decBlock b ≡ caughtUp k tick) × (sound? b ≡ true)
     back b p = (ap decBlock p ∙ block-back (caughtUp k tick) (sound-caught .fits), ap sound? p ∙ encoded-sound (caughtUp k tick) sound-caught)
 
-    module _ (m : List ℕ) (due : timerDue tick (k .objects .slots) ≡ true) (a : All (λ l. length l ≤ 8) (syncLists (k .threads))) (q : m ≡ tallyAll 129 (replicate 129 0) (syncLists (k .threads))) where
+    module _ (m : List ℕ) (due : timerDue tick (k .objects .slots) ≡ true) (a : All (λ l. length l ≤ waitList) (syncLists (k .threads))) (q : m ≡ tallyAll 129 (replicate 129 0) (syncLists (k .threads))) where
       -- what fires leaves the finding down
       fired-is : withSlots (k .objects) (lostMarked m 1 (map (firedSlot tick) (k .objects .slots))) ≡ withSlots (fireTimers (k .objects) tick) (lostMarked m 1 (fireTimers (k .objects) tick .slots))
       unfolding fireTimers

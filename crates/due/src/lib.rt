@@ -14,6 +14,7 @@ ghost use lib.ListN.{length};
 ghost use Rattle.laws.specs.Logic.{_or_};
 ghost use Rattle.laws.specs.All.{All};
 ghost use Rattle.laws.specs.Tally.{tallyAll};
+ghost use Rattle.types.specs.Thread.{waitList};
 ghost use Rattle.block.specs.Block.{encBlock, decBlock};
 ghost use Rattle.sound.specs.Question.{sound?};
 ghost use Rattle.object.specs.Slots.{withSlots};
@@ -59,7 +60,7 @@ pub fn over(b: &[u8], tick: Ticks) -> bool
 fn mark_lists(m: &mut [u32; 129], b: &[u8])
     requires { ⌜ length (now b) ≡ 16384 ⌝ }
     ensures { λ _. ⌜ now (m .exit) ≡ tallyAll 129 (now (m .entry)) (syncLists (decBlock (now (b .entry)) .threads)) ⌝ }
-    ensures { λ _. ⌜ All (λ t. length (syncList t) ≤ 8) (decBlock (now (b .entry)) .threads) ⌝ }
+    ensures { λ _. ⌜ All (λ t. length (syncList t) ≤ waitList) (decBlock (now (b .entry)) .threads) ⌝ }
 {
     let mut i: usize = 0;
     while i < 32 {

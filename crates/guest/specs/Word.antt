@@ -25,6 +25,7 @@ use Rattle.pass.specs.declared.IndexOption.the-variants.{NoIndex, SomeIndex}
 use Rattle.types.specs.declared.thread.WaitSyscall.{WaitSyscall}
 use Rattle.types.specs.declared.thread.WaitSyscall.the-variants.{WaitSynchronization1, WaitSynchronizationN}
 use Rattle.types.specs.Sync.{arbitrationFromRaw}
+use Rattle.types.specs.Thread.{waitList}
 use Rattle.svc.specs.declared.Registers.{Registers}
 use Rattle.svc.specs.declared.WordOption.{WordOption}
 use Rattle.svc.specs.declared.WordOption.the-variants.{NoWord, SomeWord}
@@ -221,12 +222,12 @@ word-none n k r words tick e = call-none n k r words tick quiet
     quiet t = arbitrates-none k r (getD words 0 0) tick (reads-none r (subst (λ (m : ℕ). wordsRead m r ≡ 0) (eqb-true n 0x22 t) e))
 
 -- ---- the questions answered
-pub few : (number : ℕ) (r : Registers) → tooMany? number r ≡ false → wordsRead number r ≤ 8
+pub few : (number : ℕ) (r : Registers) → tooMany? number r ≡ false → wordsRead number r ≤ waitList
 unfolding tooMany? _and_
 few number r e = go (eqb number 0x25) (eqb number 0x22 and (leb 1 (r .r2) and leb (r .r2) 4)) e
   where
-    go : (b c : Bool) → (b and ltb 8 (r .r2)) ≡ false → pick b (r .r2) (pick c 1 0) ≤ 8
-    go true c p = ltb-false 8 (r .r2) p
+    go : (b c : Bool) → (b and ltb waitList (r .r2)) ≡ false → pick b (r .r2) (pick c 1 0) ≤ waitList
+    go true c p = ltb-false waitList (r .r2) p
     go false true p = omega arith
     go false false p = omega arith
 

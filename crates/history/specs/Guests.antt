@@ -13,6 +13,7 @@ use Rattle.codec.specs.Bytes.{num, le}
 use Rattle.codec.proofs.Back.{Bytes}
 use Rattle.codec.proofs.Fit.{le-lt, length-decAll}
 use Rattle.types.specs.declared.kernel.Kernel.{Kernel}
+use Rattle.types.specs.Thread.{waitList}
 use Rattle.block.specs.Block.{encBlock}
 use Rattle.soundness.specs.Fits.{Word}
 use Rattle.soundness.specs.Slots.{pick-both}
@@ -93,12 +94,12 @@ given-fits number p h =
     }
 
 -- at most 8 handles are read
-pub few-words : (base number : ℕ) (w : List ℕ) (r : Registers) → tooMany? number r ≡ false → eqb number 0x25 ≡ true → length (wordsIn base w number r) ≤ 8
+pub few-words : (base number : ℕ) (w : List ℕ) (r : Registers) → tooMany? number r ≡ false → eqb number 0x25 ≡ true → length (wordsIn base w number r) ≤ waitList
 unfolding tooMany? _and_
 few-words base number w r t e =
     let n : wordsRead number r ≡ r .r2 = pick-yes (eqb number 0x25) (r .r2) _ e in
-    let m : ltb 8 (r .r2) ≡ false = sym (ap (λ (q : Bool). q and ltb 8 (r .r2)) e) ∙ t in
-    omega (arith, length-decAll num 4 (wordsRead number r) w (r .r1 - base), n, ltb-false 8 (r .r2) m)
+    let m : ltb waitList (r .r2) ≡ false = sym (ap (λ (q : Bool). q and ltb waitList (r .r2)) e) ∙ t in
+    omega (arith, length-decAll num 4 (wordsRead number r) w (r .r1 - base), n, ltb-false waitList (r .r2) m)
 
 accepted-is : (n : ℕ) → Accepted n → accepted? n ≡ true
 unfolding accepted? _or_ _and_

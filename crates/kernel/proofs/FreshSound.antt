@@ -22,6 +22,7 @@ use Rattle.sound.specs.Objects.{names, keptNames, held?, upTo128, keptIn?, kept
 use Rattle.sound.specs.Records.{has?, chain?, blanks?, chained?, records?}
 use Rattle.sound.specs.Sound.{state?, Sound, t-sound}
 use Rattle.kernel.specs.Fresh.{inRow, freeSlot, freeSlots, freeWaiter, freeWaiters, blankThread, fresh}
+use Rattle.types.specs.Thread.{waitList}
 
 -- every clause, computed
 fresh-yes : (w : ℕ) → state? (fresh w) ≡ true
@@ -55,7 +56,7 @@ fresh-fits w h =
     record {
       head = h & z4 & z4 & z4 & z4 & z4 & z4 & z4 & (omega arith) & (omega arith) & z4 & (omega arith) & z4 & z4 & z4 & z4 & tt;
       nt = refl;
-      threads = all-replicate ThreadFits 32 blankThread (z4 & z4 & z4 & z4 & z4 & z4 & z4 & z4 & z4 & z4 & z4 & z4 & z4 & z4 & z4 & z4 & z8 & z8 & tt, all-replicate IdFits 8 (record { 0 = 0 }) z4, refl);
+      threads = all-replicate ThreadFits 32 blankThread (z4 & z4 & z4 & z4 & z4 & z4 & z4 & z4 & z4 & z4 & z4 & z4 & z4 & z4 & z4 & z4 & z8 & z8 & tt, all-replicate IdFits waitList (record { 0 = 0 }) z4, refl);
       ns = row-length freeSlot 128 2;
       slots = row-all SlotFits freeSlot (λ k l. z4 & z4 & z4 & l & z4 & z4 & z8 & z8 & tt) 128 2 (omega arith);
       ne = refl;

@@ -18,6 +18,7 @@ use Rattle.types.specs.declared.object.Waiter.{Waiter}
 use Rattle.types.specs.declared.object.ObjectStore.{ObjectStore}
 use Rattle.types.specs.declared.object.HandleTable.{HandleTable}
 use Rattle.types.specs.declared.kernel.Kernel.{Kernel}
+use Rattle.types.specs.Thread.{waitList}
 
 -- n cells in a row, each naming the next, the first of them k; the last names 0
 unfoldable pub inRow : {A : Type 0} → (ℕ → A) → ℕ → ℕ → List A
@@ -45,7 +46,7 @@ blankThread = record {
   «stack_top» = 0;
   tls = 0;
   «processor_id» = 0;
-  «wait_objects» = replicate 8 (record { 0 = 0 });
+  «wait_objects» = replicate waitList (record { 0 = 0 });
   «wait_count» = 0;
   «wait_all» = false;
   «wakeup_at» = NoTick;

@@ -17,7 +17,7 @@ use Rattle.types.specs.declared.thread.TickOption.the-variants.{NoTick, SomeTic
 use Rattle.types.specs.declared.thread.ThreadStatus.{ThreadStatus}
 use Rattle.types.specs.declared.thread.Thread.{Thread}
 use Rattle.types.specs.declared.object.Slot.{Slot}
-use Rattle.types.specs.Thread.{isBlocked}
+use Rattle.types.specs.Thread.{waitList, isBlocked}
 use Rattle.sound.specs.View.{ids}
 use Rattle.kernel.specs.declared.next_event.Earliest.{Earliest}
 use Rattle.kernel.specs.NextEvent.{contains, waitedOn, dueAfter, nextDue}
@@ -70,16 +70,16 @@ module _ (asked : ThreadStatus → Bool) (waited : List Thread → ℕ → Bool)
       more t ts o
       ∙ rw (if-is (asked (t .status)) (ids (t .«wait_objects»)) o, waited-is ts o) (or-sum (count o (listBy asked t)) (countAll o (map (listBy asked) ts)))
 
-  pub marks-tell : (ts : List Thread) → length ts ≡ 32 → All (λ l. length l ≤ 8) (map (listBy asked) ts) → (o : ℕ) → o < 129
+  pub marks-tell : (ts : List Thread) → length ts ≡ 32 → All (λ l. length l ≤ waitList) (map (listBy asked) ts) → (o : ℕ) → o < 129
       → ltb 0 (getD (tallyAll 129 (replicate 129 0) (map (listBy asked) ts)) o 0) ≡ waited ts o
   marks-tell ts n a o h =
       let ls = map (listBy asked) ts in
       let e : getD (tallyAll 129 (replicate 129 0) ls) o 0 ≡ countAll o ls =
-      omega (arith, tallyAll-get 129 8 ls (replicate 129 0) 0 a refl (zero-le 129) (omega (arith, length-map ts (listBy asked))) o h, zero-get 129 o) in
+      omega (arith, tallyAll-get 129 waitList ls (replicate 129 0) 0 a refl (zero-le 129) (omega (arith, length-map ts (listBy asked))) o h, zero-get 129 o) in
       ap (ltb 0) e ∙ sym (waited-is ts o)
 
 -- ---- the marks tell who is waited on
-module _ (ts : List Thread) (n : length ts ≡ 32) (a : All (λ l. length l ≤ 8) (listsIf ts)) where
+module _ (ts : List Thread) (n : length ts ≡ 32) (a : All (λ l. length l ≤ waitList) (listsIf ts)) where
   marked : (o : ℕ) → o < 129 → ltb 0 (getD (tallyAll 129 (replicate 129 0) (listsIf ts)) o 0) ≡ waitedOn ts o
   unfolding waitedOn
   marked o h = marks-tell isBlocked waitedOn (λ o. refl) (λ t ts o. refl) ts n a o h

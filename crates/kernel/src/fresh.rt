@@ -11,6 +11,7 @@ use types::thread::Thread;
 use types::thread::ThreadOption;
 use types::thread::ThreadStatus;
 use types::thread::TickOption;
+use types::thread::WAIT_LIST;
 use types::thread::WaitResult;
 use types::thread::WaitSyscall;
 use units::Handle;
@@ -89,7 +90,7 @@ pub fn blank_thread() -> Thread
         stack_top: 0,
         tls: 0,
         processor_id: 0,
-        wait_objects: [none; 8],
+        wait_objects: [none; WAIT_LIST],
         wait_count: 0,
         wait_all: false,
         wakeup_at: TickOption::NoTick,

@@ -7,7 +7,7 @@ ghost use mathlib.Core.Path.{_≡_};
 ghost use Prim.Native.Nat.{_-_, _<_, _≤_};
 ghost use lib.ListN.{length};
 ghost use Rattle.laws.specs.Tally.{tally};
-ghost use Rattle.types.specs.Thread.{isBlocked};
+ghost use Rattle.types.specs.Thread.{waitList, isBlocked};
 ghost use Rattle.kernel.specs.NextEvent.{earlier, wakeAfter, dueOf};
 ghost use Rattle.kernel.specs.Marks.{listIf, option};
 
@@ -63,7 +63,7 @@ fn blocked(t: Thread) -> bool
 // One more for each object that the thread waits on, if it is blocked.
 pub fn mark_list(m: &mut [u32; 129], t: Thread)
     ensures { λ _. ⌜ now (m .exit) ≡ tally 129 (now (m .entry)) (listIf t) ⌝ }
-    ensures { λ _. ⌜ length (listIf t) ≤ 8 ⌝ }
+    ensures { λ _. ⌜ length (listIf t) ≤ waitList ⌝ }
 {
     if !blocked(t) {
         return;

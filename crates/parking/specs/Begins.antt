@@ -13,6 +13,7 @@ use Rattle.types.specs.declared.thread.WaitSyscall.{WaitSyscall}
 use Rattle.types.specs.declared.thread.Thread.{Thread}
 use Rattle.types.specs.declared.object.ObjectStore.{ObjectStore}
 use Rattle.types.specs.declared.kernel.Kernel.{Kernel}
+use Rattle.types.specs.Thread.{waitList}
 use Rattle.sound.specs.View.{ids, threadAt}
 use Rattle.sound.specs.Objects.{names, Live}
 use Rattle.object.specs.Slots.{content}
@@ -86,21 +87,21 @@ module _ (k : Kernel) (c : ℕ) (os : List ℕ) (all : Bool) (nanos tick : ℕ) 
   on-sticks : Sticks (k .objects) (waitOn k c os all nanos tick call .kernel .objects)
   unfolding beginWait
   on-sticks = record {
-    full = λ e. sym (begin-full (k .«current_thread») k (padded 8 os) (length os) all (waitTime nanos) tick) ∙ e;
-    overflow = λ e. sym (begin-overflow (k .«current_thread») k (padded 8 os) (length os) all (waitTime nanos) tick) ∙ e;
+    full = λ e. sym (begin-full (k .«current_thread») k (padded waitList os) (length os) all (waitTime nanos) tick) ∙ e;
+    overflow = λ e. sym (begin-overflow (k .«current_thread») k (padded waitList os) (length os) all (waitTime nanos) tick) ∙ e;
   }
 
   pub unless-sticks : Sticks (k .objects) (waitUnless k c os all nanos tick call .kernel .objects)
   unless-sticks =
       pick-both (λ (v : Served). Sticks (k .objects) (v .kernel .objects)) (eqb nanos 0) (answers timeout k) (waitOn k c os all nanos tick call) (sticks-same (k .objects)) on-sticks
 
-  module _ (p : Parts k) (e : k .«current_thread» ≡ SomeThread c) (u : Unlisted (k .threads) (k .«current_thread»)) (few : length os ≤ 8) (known : Known (k .objects) (names (k .handles) (k .threads)) os) where
+  module _ (p : Parts k) (e : k .«current_thread» ≡ SomeThread c) (u : Unlisted (k .threads) (k .«current_thread»)) (few : length os ≤ waitList) (known : Known (k .objects) (names (k .handles) (k .threads)) os) where
     on-parts : Parts (waitOn k c os all nanos tick call .kernel)
     unfolding beginWait
     on-parts =
-        let b : Kernel = beginWaitAs (k .«current_thread») k (padded 8 os) (length os) all (waitTime nanos) tick in
-        let q : Parts b = beginWait-parts k p (padded 8 os) (length os) (known-waitable k p os few known) all (waitTime nanos) tick u in
-        noted-parts b q c (current-live b q c (begin-current (k .«current_thread») k (padded 8 os) (length os) all (waitTime nanos) tick ∙ e)) call
+        let b : Kernel = beginWaitAs (k .«current_thread») k (padded waitList os) (length os) all (waitTime nanos) tick in
+        let q : Parts b = beginWait-parts k p (padded waitList os) (length os) (known-waitable k p os few known) all (waitTime nanos) tick u in
+        noted-parts b q c (current-live b q c (begin-current (k .«current_thread») k (padded waitList os) (length os) all (waitTime nanos) tick ∙ e)) call
 
     -- a time-out of 0 does not wait
     pub unless-parts : Parts (waitUnless k c os all nanos tick call .kernel)

@@ -7,6 +7,7 @@ use Prim.Native.Nat.{ℕ, _≤_, _<_}
 use lib.Dec.{eqb}
 use lib.ListN.{length, getD}
 use Rattle.types.specs.declared.kernel.Kernel.{Kernel}
+use Rattle.types.specs.Thread.{waitList}
 use Rattle.sound.specs.Sound.{Sound}
 use Rattle.soundness.specs.Slots.{pick-both, pick-if}
 use Rattle.svc.specs.declared.Registers.{Registers}
@@ -23,7 +24,7 @@ use Rattle.parking.specs.Waits.{waitSynchronization1-sound, waitSynchron
 
 -- 0x25 is given at most 8 handles, by question 5
 module _ (number : ℕ) (k : Kernel) (r : Registers) (words : List ℕ) (tick : ℕ) where
-  pub call-sound : (eqb number 0x25 ≡ true → length words ≤ 8) → RegistersFit r → tick < 18446744073709551616 → runs? k ≡ true → Sound k
+  pub call-sound : (eqb number 0x25 ≡ true → length words ≤ waitList) → RegistersFit r → tick < 18446744073709551616 → runs? k ≡ true → Sound k
       → Clear (call number k r words tick .kernel) → Sound (call number k r words tick .kernel)
   unfolding call
   call-sound few f t g s =

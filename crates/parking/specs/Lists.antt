@@ -12,6 +12,7 @@ use Rattle.types.specs.declared.thread.ThreadOption.{ThreadOption}
 use Rattle.types.specs.declared.object.HandleTable.{HandleTable}
 use Rattle.types.specs.declared.object.ObjectStore.{ObjectStore}
 use Rattle.types.specs.declared.kernel.Kernel.{Kernel}
+use Rattle.types.specs.Thread.{waitList}
 use Rattle.sound.specs.View.{ids}
 use Rattle.sound.specs.Threads.{Zeros, Places}
 use Rattle.sound.specs.Objects.{names, keptNames}
@@ -121,9 +122,9 @@ module _ (k : Kernel) (p : Parts k) where
   padded-places (suc m) (o ∷ os) l a =
       (a .0, (omega (arith, named-slot (k .objects) (names (k .handles) (k .threads)) (p .ob) o (a .0) (a .1 .0), p .ob .ns), padded-places m os (omega arith) (a .1 .1)))
 
-  pub known-waitable : (os : List ℕ) → length os ≤ 8 → Known (k .objects) (names (k .handles) (k .threads)) os → Waitable k (padded 8 os) (length os)
+  pub known-waitable : (os : List ℕ) → length os ≤ waitList → Known (k .objects) (names (k .handles) (k .threads)) os → Waitable k (padded waitList os) (length os)
   known-waitable os l a = record {
-    places = padded-places 8 os l a;
-    known = subst (Known (k .objects) (names (k .handles) (k .threads))) (sym (padded-first 8 os l)) a;
-    size = padded-length 8 os;
+    places = padded-places waitList os l a;
+    known = subst (Known (k .objects) (names (k .handles) (k .threads))) (sym (padded-first waitList os l)) a;
+    size = padded-length waitList os;
   }

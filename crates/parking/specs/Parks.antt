@@ -22,7 +22,7 @@ use Rattle.object.specs.Waiters.{isArbiter, pushed, push}
 use Rattle.soundness.specs.Slots.{pick-both}
 use Rattle.soundness.specs.Records.{push-ok, push-full, push-chains}
 use Rattle.soundness.specs.Each.{each-push, content-head}
-use Rattle.soundness.specs.Fits.{Word, z4, push-fits}
+use Rattle.soundness.specs.Fits.{Word, z4, push-fits, no-objects, none-fit}
 use Rattle.soundness.specs.Threads.{names-same}
 use Rattle.soundness.specs.Whole.{Parts}
 use Rattle.soundness.specs.Creates.{StoreOk, parts-store, store-more}
@@ -64,7 +64,7 @@ module _ (k : Kernel) (p : Parts k) (o a : ℕ) (small : Word a) (time : TickOpt
     waiter = parked (threadAt (k .threads) c) a (wakeTick time tick)
 
     no-list : Zeros (ids (waiter .«wait_objects»))
-    no-list = (refl, (refl, (refl, (refl, (refl, (refl, (refl, (refl, tt))))))))
+    no-list = no-objects
 
     turned : Turned (k .«current_thread») c (threadAt (k .threads) c) waiter
     turned =
@@ -74,7 +74,7 @@ module _ (k : Kernel) (p : Parts k) (o a : ℕ) (small : Word a) (time : TickOpt
           ok = record { priority = u .priority; run = tt; list = no-list; only = refl };
           live = refl;
           tls = refl;
-          widths = record { own = w .own; wait = record { count = z4; address = small; wakeup = wake-fits time tick; ids = (z4, (z4, (z4, (z4, (z4, (z4, (z4, (z4, tt)))))))); size = refl }; index = w .index; since = w .since };
+          widths = record { own = w .own; wait = record { count = z4; address = small; wakeup = wake-fits time tick; ids = none-fit; size = refl }; index = w .index; since = w .since };
         }
 
     parked-parts : Parts (parkAs (SomeThread c) k o a time tick)

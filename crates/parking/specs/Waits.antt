@@ -15,6 +15,7 @@ use Rattle.types.specs.declared.thread.WaitSyscall.{WaitSyscall}
 use Rattle.types.specs.declared.thread.WaitSyscall.the-variants.{WaitSynchronization1, WaitSynchronizationN}
 use Rattle.types.specs.declared.object.ObjectStore.{ObjectStore}
 use Rattle.types.specs.declared.kernel.Kernel.{Kernel}
+use Rattle.types.specs.Thread.{waitList}
 use Rattle.sound.specs.View.{objectAt}
 use Rattle.sound.specs.Objects.{names, keptNames}
 use Rattle.sound.specs.Sound.{Sound}
@@ -141,7 +142,7 @@ module _ (k : Kernel) (os : List ℕ) (all : Bool) (nanos tick : ℕ) where
   many-answers NoThread = inl refl
   many-answers (SomeThread c) = take-answers (satisfiedAt (k .threads) (k .objects) c all os) c
 
-  module _ (p : Parts k) (u : Unlisted (k .threads) (k .«current_thread»)) (few : length os ≤ 8) (known : Known (k .objects) (names (k .handles) (k .threads)) os) where
+  module _ (p : Parts k) (u : Unlisted (k .threads) (k .«current_thread»)) (few : length os ≤ waitList) (known : Known (k .objects) (names (k .handles) (k .threads)) os) where
     taken-parts : (c i : ℕ) → k .«current_thread» ≡ SomeThread c → (b : Bool) → pick b (acquires (k .objects) os c) (acquire (k .objects) (getD os i 0) c) .overflow ≡ false
         → Parts (withObjects k (pick b (acquires (k .objects) os c) (acquire (k .objects) (getD os i 0) c)))
     taken-parts c i q true e = acquires-parts k p os c (current-live k p c q) e
@@ -174,7 +175,7 @@ module _ (k : Kernel) (hs : List ℕ) (all : Bool) (nanos tick : ℕ) where
   servedN-answers true = inr (omega arith, omega arith)
   servedN-answers false = many-answers (withObjects k left) found all nanos tick (k .«current_thread»)
 
-  servedN-parts : (b : Bool) → contains found 0 ≡ b → length hs ≤ 8 → Parts k → Unlisted (k .threads) (k .«current_thread») → Clear (servedN b .kernel) → Parts (servedN b .kernel)
+  servedN-parts : (b : Bool) → contains found 0 ≡ b → length hs ≤ waitList → Parts k → Unlisted (k .threads) (k .«current_thread») → Clear (servedN b .kernel) → Parts (servedN b .kernel)
   servedN-parts true q few p u c = all-found hs k p (c .storeFull) .parts
   servedN-parts false q few p u c =
       let a : AllFound k left found = all-found hs k p (servedN-sticks false .full (c .storeFull)) in
@@ -184,7 +185,7 @@ module _ (k : Kernel) (hs : List ℕ) (all : Bool) (nanos tick : ℕ) where
   servedN-before : (b : Bool) → Clear (servedN b .kernel) → k .objects .overflow ≡ false
   servedN-before b c = sym (store-overflow (k .«current_thread») (k .handles) hs (k .objects)) ∙ servedN-sticks b .overflow (c .storeOverflow)
 
-pub waitSynchronizationN-sound : (k : Kernel) (r : Registers) (hs : List ℕ) (tick : ℕ) → length hs ≤ 8 → runs? k ≡ true → Sound k → Clear (waitSynchronizationN k r hs tick .kernel)
+pub waitSynchronizationN-sound : (k : Kernel) (r : Registers) (hs : List ℕ) (tick : ℕ) → length hs ≤ waitList → runs? k ≡ true → Sound k → Clear (waitSynchronizationN k r hs tick .kernel)
     → Sound (waitSynchronizationN k r hs tick .kernel)
 unfolding waitSynchronizationN
 waitSynchronizationN-sound k r hs tick few run s c =

@@ -31,7 +31,7 @@ use Rattle.soundness.specs.Objects.{ObOk}
 use Rattle.soundness.specs.Chains.{count-no-chain, once-free, chain-at}
 use Rattle.soundness.specs.Records.{retain-ok, retain-chains}
 use Rattle.soundness.specs.Each.{each-retain, content-head}
-use Rattle.soundness.specs.Fits.{z4, z8, retain-fits}
+use Rattle.soundness.specs.Fits.{z4, z8, retain-fits, no-objects, none-fit}
 use Rattle.soundness.specs.Whole.{Parts}
 use Rattle.soundness.specs.Creates.{StoreOk, parts-store}
 use Rattle.passing.specs.Alike.{store-parts}
@@ -118,13 +118,13 @@ module _ (k : Kernel) (p : Parts k) (i : ℕ) (w : waitsArbiter (threadAt (k .th
       let u = live-ok k p i live in
       let d = live-widths k p i live in
       let v : Thread = wokenUp old in
-      let z : Zeros (ids (v .«wait_objects»)) = (refl, (refl, (refl, (refl, (refl, (refl, (refl, (refl, tt)))))))) in
+      let z : Zeros (ids (v .«wait_objects»)) = no-objects in
       thread-parts k p i live v
       (record {
         ok = record { priority = u .priority; run = tt; list = z; only = refl };
         live = refl;
         tls = refl;
-        widths = record { own = d .own; wait = record { count = z4; address = z4; wakeup = z8; ids = (z4, (z4, (z4, (z4, (z4, (z4, (z4, (z4, tt)))))))); size = refl }; index = z4; since = d .since };
+        widths = record { own = d .own; wait = record { count = z4; address = z4; wakeup = z8; ids = none-fit; size = refl }; index = z4; since = d .since };
       })
       (λ o q. zeros-count o (ids (v .«wait_objects»)) q z ∙ sym (zeros-count o (ids (old .«wait_objects»)) q (unlisted-zeros k p i live (waits-none (old .status) (old .«wait_count») w (u .only)))))
 

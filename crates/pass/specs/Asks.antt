@@ -36,11 +36,15 @@ pseudo h = eqb h 0xFFFF8000 or eqb h 0xFFFF8001
 abbrev pub openObject : Kernel → ℕ → ℕ
 openObject k h = pick (pseudo h) 0 (objectOf (k .handles) h)
 
+-- `WAIT_AT_ONCE`: the most handles that `satisfied_now` looks at
+abbrev pub waitAtOnce : ℕ
+waitAtOnce = 8
+
 -- ---- `satisfied_now`: what a wait on a list of handles would find at the tick, when it has nothing else to do first
 abbrev pub unsatisfied : Satisfied
-unsatisfied = record { objects = replicate 8 (record { 0 = 0 }); index = NoIndex }
+unsatisfied = record { objects = replicate waitAtOnce (record { 0 = 0 }); index = NoIndex }
 
--- eight places, the unused ones 0
+-- so many places, the unused ones 0
 unfoldable pub padded : ℕ → List ℕ → List ObjectId
 padded zero os = []
 padded (suc n) [] = record { 0 = 0 } ∷ padded n []
@@ -48,7 +52,7 @@ padded (suc n) (o ∷ os) = record { 0 = o } ∷ padded n os
 
 abbrev pub foundAs : IndexOption → List ℕ → Satisfied
 foundAs NoIndex os = unsatisfied
-foundAs (SomeIndex i) os = record { objects = padded 8 os; index = SomeIndex i }
+foundAs (SomeIndex i) os = record { objects = padded waitAtOnce os; index = SomeIndex i }
 
 -- every handle names an object, and the wait is satisfied right away for the current thread
 abbrev pub satisfiedFor : Kernel → ℕ → List ℕ → Bool → Satisfied
@@ -57,7 +61,7 @@ satisfiedFor k c os all = pick (contains os 0) unsatisfied (foundAs (satisfiedAt
 abbrev pub satisfiedBy : ThreadOption → Kernel → List ℕ → Bool → ℕ → Satisfied
 satisfiedBy NoThread k hs all tick = unsatisfied
 satisfiedBy (SomeThread c) k hs all tick =
-    pick (ltb 8 (length hs) or timerDue tick (k .objects .slots)) unsatisfied (satisfiedFor k c (map (openObject k) hs) all)
+    pick (ltb waitAtOnce (length hs) or timerDue tick (k .objects .slots)) unsatisfied (satisfiedFor k c (map (openObject k) hs) all)
 
 unfoldable pub satisfiedNow : Kernel → List ℕ → Bool → ℕ → Satisfied
 satisfiedNow k hs all tick = satisfiedBy (k .«current_thread») k hs all tick

@@ -35,9 +35,12 @@ pub struct Passed {
     pub switched: bool,
 }
 
+// The most handles that `satisfied_now` looks at, whatever a wait may have.
+pub const WAIT_AT_ONCE: usize = 8;
+
 // What a wait on a list of handles would find at once: the objects, unused places 0, and where.
 pub struct Satisfied {
-    pub objects: [ObjectId; 8],
+    pub objects: [ObjectId; WAIT_AT_ONCE],
     pub index: IndexOption,
 }
 

@@ -15,7 +15,7 @@ use Rattle.sound.specs.View.{ids, threadAt}
 use Rattle.sound.specs.Objects.{Live}
 use Rattle.thread.specs.Thread.{clearWait, withStatus, withResult}
 use Rattle.thread.specs.Threads.{withThreads, releaseWaits, endWait}
-use Rattle.soundness.specs.Fits.{Word}
+use Rattle.soundness.specs.Fits.{Word, no-objects}
 use Rattle.soundness.specs.Threads.{thread-same}
 use Rattle.soundness.specs.Whole.{Parts}
 use Rattle.soundness.specs.Ends.{endWait-parts}
@@ -53,7 +53,7 @@ module _ (k : Kernel) (t : ℕ) (live : Live (k .threads) t) (r : WaitResult) (s
       let u = live-ok k p t live in
       let w : Widths (clearWait old) = subst Widths stands (live-widths (withThreads k (set (k .threads) t (clearWait old)) (releaseWaits (k .objects) (k .threads) t)) ended t still) in
       record {
-        ok = record { priority = u .priority; run = tt; list = (refl, (refl, (refl, (refl, (refl, (refl, (refl, (refl, tt)))))))); only = refl };
+        ok = record { priority = u .priority; run = tt; list = no-objects; only = refl };
         live = refl;
         tls = ap (λ (x : Thread). x .tls) (sym stands);
         widths = record { own = w .own; wait = w .wait; index = small; since = w .since };

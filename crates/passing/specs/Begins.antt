@@ -15,7 +15,7 @@ use Rattle.types.specs.declared.thread.ThreadOption.the-variants.{NoThread, Som
 use Rattle.types.specs.declared.thread.Thread.{Thread}
 use Rattle.types.specs.declared.object.ObjectStore.{ObjectStore}
 use Rattle.types.specs.declared.kernel.Kernel.{Kernel}
-use Rattle.types.specs.Thread.{tickValue}
+use Rattle.types.specs.Thread.{waitList, tickValue}
 use Rattle.block.proofs.Fits.{IdFits}
 use Rattle.sound.specs.View.{ids, objectAt, threadAt}
 use Rattle.sound.specs.Threads.{Places}
@@ -47,7 +47,7 @@ use Rattle.passing.specs.Sleeps.{Unlisted, unlisted-zeros}
 pub record Waitable (k : Kernel) (l : List ObjectId) (n : ℕ) : Type 0 where
   pub places : Places n (ids l)
   pub known : Known (k .objects) (names (k .handles) (k .threads)) (take n (ids l))
-  pub size : length l ≡ 8
+  pub size : length l ≡ waitList
 
 -- ---- widths
 places-fit : (n : ℕ) (l : List ObjectId) → Places n (ids l) → All IdFits l
@@ -77,7 +77,7 @@ addRefs-overflow (o ∷ os) s = addRefs-overflow os (addRef s o) ∙ addRef-over
 
 -- ---- `begin_wait`
 module _ (k : Kernel) (p : Parts k) (l : List ObjectId) (n : ℕ) (q : Waitable k l n) (all : Bool) (timeout : TickOption) (tick : ℕ) where
-  few : n ≤ 8
+  few : n ≤ waitList
   few = omega (arith, places-in n (ids l) (q .places), length-map l (λ (o : ObjectId). o .0), q .size)
 
   module _ (c : ℕ) (live : Live (k .threads) c) (none : Unlisted (k .threads) (SomeThread c)) where

@@ -11,7 +11,7 @@ use Rattle.types.specs.declared.thread.ThreadStatus.{ThreadStatus}
 use Rattle.types.specs.declared.thread.ThreadStatus.the-variants.{Dead, Running, Ready, Sleeping, WaitSync, WaitArbiter, Dormant}
 use Rattle.types.specs.declared.thread.Thread.{Thread}
 use Rattle.types.specs.declared.object.ObjectStore.{ObjectStore}
-use Rattle.types.specs.Thread.{isDead}
+use Rattle.types.specs.Thread.{waitList, isDead}
 use Rattle.block.proofs.Fits.{ThreadFits}
 use Rattle.sound.specs.View.{ids, noThread, objectAt, threadAt}
 use Rattle.sound.specs.Objects.{Live}
@@ -67,14 +67,14 @@ module _ (ts : List Thread) (t : ℕ) where
   fate-as n w Dormant found h late e = tt
 
 -- a list of a thread has at most 8 objects; past the table there is none
-pub fate-ok : (ts : List Thread) (s : ObjectStore) (tick t : ℕ) → length (threadAt ts t .«wait_objects») ≤ 8 → FateOk ts t (fate ts s tick t)
+pub fate-ok : (ts : List Thread) (s : ObjectStore) (tick t : ℕ) → length (threadAt ts t .«wait_objects») ≤ waitList → FateOk ts t (fate ts s tick t)
 unfolding fate
 fate-ok ts s tick t h =
     let x : Thread = threadAt ts t in
     fate-as ts t (length (waitedObjects x)) (omega (arith, take-length (x .«wait_count») (ids (x .«wait_objects»)), length-map (x .«wait_objects») (λ (o : ObjectId). o .0))) (x .status)
     (satisfiedAt ts s t (x .«wait_all») (waitedObjects x)) (satisfied-in ts s t (x .«wait_all») (waitedObjects x)) (dueBy (x .«wakeup_at») tick) refl
 
-pub list-short : (ts : List Thread) (t : ℕ) → All ThreadFits ts → length (threadAt ts t .«wait_objects») ≤ 8
+pub list-short : (ts : List Thread) (t : ℕ) → All ThreadFits ts → length (threadAt ts t .«wait_objects») ≤ waitList
 list-short ts t a =
-    all-get (λ (x : Thread). length (x .«wait_objects») ≤ 8) ts t noThread (omega arith)
-    (all-as ThreadFits (λ (x : Thread). length (x .«wait_objects») ≤ 8) (λ x f. omega (arith, f .2)) ts a)
+    all-get (λ (x : Thread). length (x .«wait_objects») ≤ waitList) ts t noThread (omega arith)
+    (all-as ThreadFits (λ (x : Thread). length (x .«wait_objects») ≤ waitList) (λ x f. omega (arith, f .2)) ts a)

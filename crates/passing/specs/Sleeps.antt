@@ -10,7 +10,7 @@ use Rattle.sound.specs.View.{ids, threadAt}
 use Rattle.sound.specs.Threads.{Zeros}
 use Rattle.sound.specs.Objects.{Live}
 use Rattle.sound.specs.Sound.{Sound, zeros-count}
-use Rattle.soundness.specs.Fits.{z4}
+use Rattle.soundness.specs.Fits.{z4, no-objects, none-fit}
 use Rattle.soundness.specs.Threads.{no-list}
 use Rattle.soundness.specs.Whole.{Parts, sound-parts, parts-sound}
 use Rattle.pass.specs.Timers.{saturatingAdd}
@@ -43,13 +43,13 @@ module _ (k : Kernel) (p : Parts k) (ticks tick : ℕ) where
       let u = live-ok k p c live in
       let w = live-widths k p c live in
       let v : Thread = sleeping (threadAt (k .threads) c) (saturatingAdd tick ticks) in
-      let z : Zeros (ids (v .«wait_objects»)) = (refl, (refl, (refl, (refl, (refl, (refl, (refl, (refl, tt)))))))) in
+      let z : Zeros (ids (v .«wait_objects»)) = no-objects in
       thread-parts k p c live v
       (record {
         ok = record { priority = u .priority; run = tt; list = z; only = refl };
         live = refl;
         tls = refl;
-        widths = record { own = w .own; wait = record { count = z4; address = z4; wakeup = saturating-fits tick ticks; ids = (z4, (z4, (z4, (z4, (z4, (z4, (z4, (z4, tt)))))))); size = refl }; index = w .index; since = w .since };
+        widths = record { own = w .own; wait = record { count = z4; address = z4; wakeup = saturating-fits tick ticks; ids = none-fit; size = refl }; index = w .index; since = w .since };
       })
       (λ o q. zeros-count o (ids (v .«wait_objects»)) q z ∙ sym (zeros-count o (ids (threadAt (k .threads) c .«wait_objects»)) q (unlisted-zeros k p c live n)))
 

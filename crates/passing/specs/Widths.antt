@@ -6,7 +6,7 @@ use lib.ListN.{length}
 use Rattle.laws.specs.All.{All}
 use Rattle.units.specs.declared.ObjectId.{ObjectId}
 use Rattle.types.specs.declared.thread.Thread.{Thread}
-use Rattle.types.specs.Thread.{tickValue, addressValue, resultIndex}
+use Rattle.types.specs.Thread.{waitList, tickValue, addressValue, resultIndex}
 use Rattle.codec.proofs.Fit.{_&_, flag-fits}
 use Rattle.block.proofs.Enums.{status-fits, tick-flag-fits, address-flag-fits, result-fits, syscall-fits}
 use Rattle.block.proofs.Fits.{IdFits, ThreadFits}
@@ -27,7 +27,7 @@ pub record Wait (n a w : ℕ) (l : List ObjectId) : Type 0 where
   pub address : Word a
   pub wakeup : w < 256 ^ 8
   pub ids : All IdFits l
-  pub size : length l ≡ 8
+  pub size : length l ≡ waitList
 
 pub record Widths (t : Thread) : Type 0 where
   pub own : Own (t .priority) (t .entry) (t .«stack_top») (t .tls) (t .«processor_id») (t .«guest_id»)

@@ -27,6 +27,10 @@ use Rattle.types.specs.declared.thread.Thread.{Thread}
 use Rattle.types.proofs.thread.Thread as T
 use Rattle.types.proofs.thread.Thread.Laws as T′
 
+-- the bytes of a thread in memory, as the compiler lays its fields out; a field that is added or widened changes it
+abbrev pub threadSize : ℕ
+threadSize = 136
+
 abbrev pub R : RattleType
 R = T.the-row
 

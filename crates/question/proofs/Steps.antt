@@ -19,7 +19,7 @@ use Rattle.types.specs.declared.thread.ThreadOption.{ThreadOption}
 use Rattle.types.specs.declared.thread.ThreadStatus.{ThreadStatus}
 use Rattle.types.specs.declared.thread.ThreadStatus.the-variants.{Dead, Running, Ready, Sleeping, WaitSync, WaitArbiter, Dormant}
 use Rattle.types.specs.declared.object.HandleEntry.{HandleEntry}
-use Rattle.types.specs.Thread.{isDead}
+use Rattle.types.specs.Thread.{waitList, isDead}
 use Rattle.sound.specs.View.{ids, noThread}
 use Rattle.sound.specs.Threads.{places?, zeros?, isCurrent, run?}
 use Rattle.sound.specs.Tls.{heldIf, held, held-step, below?}
@@ -66,13 +66,13 @@ unfolding places?
 places-none zero p = absurd (p refl)
 places-none (suc k) p = refl
 
-places-end-as : (n : ℕ) (t : Bool) → leb n 8 ≡ t → places? (n - 8) [] ≡ t
+places-end-as : (n : ℕ) (t : Bool) → leb n waitList ≡ t → places? (n - waitList) [] ≡ t
 unfolding places? zeros?
-places-end-as n true e = let f : n - 8 ≡ 0 = omega (arith, leb-true n 8 e) in rw f
-places-end-as n false e = places-none (n - 8) (omega (arith, leb-false n 8 e))
+places-end-as n true e = let f : n - waitList ≡ 0 = omega (arith, leb-true n waitList e) in rw f
+places-end-as n false e = places-none (n - waitList) (omega (arith, leb-false n waitList e))
 
-pub places-end : (l : List ObjectId) (n : ℕ) → length l ≤ 8 → places? (n - 8) (ids (drop 8 l)) ≡ leb n 8
-places-end l n h = rw (drop-of-length-le l h) (places-end-as n (leb n 8) refl)
+pub places-end : (l : List ObjectId) (n : ℕ) → length l ≤ waitList → places? (n - waitList) (ids (drop waitList l)) ≡ leb n waitList
+places-end l n h = rw (drop-of-length-le l h) (places-end-as n (leb n waitList) refl)
 
 -- ---- the handles
 and-four : (a b c d e : Bool) → a and (b and (c and (d and e))) ≡ (a and (b and (c and d))) and e

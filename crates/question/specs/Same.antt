@@ -28,7 +28,7 @@ use Rattle.types.specs.declared.object.HandleEntry.{HandleEntry}
 use Rattle.types.specs.declared.object.HandleTable.{HandleTable}
 use Rattle.types.specs.declared.object.ObjectStore.{ObjectStore}
 use Rattle.types.specs.declared.kernel.Kernel.{Kernel}
-use Rattle.types.specs.Thread.{isDead}
+use Rattle.types.specs.Thread.{waitList, isDead}
 use Rattle.types.specs.Object.{kindNumber, nextOf, headOf}
 use Rattle.block.proofs.Fits.{StateFits}
 use Rattle.sound.specs.View.{kinds, refs, nexts, ids, lists, heads, waiterNexts, waiterThreads, waiterAddresses, noSlot, noThread, slotAt, threadAt, at-slots}
@@ -36,7 +36,7 @@ use Rattle.sound.specs.Objects.{names, keptNames, held?, keptIn?, isThread?, is
 use Rattle.sound.specs.Sound.{state?}
 use Rattle.sound.specs.Records.{chain?, blanks?, chained?, freeChain, records?}
 use Rattle.tally.specs.Lists as list
-use Rattle.tally.specs.Lists.{Eight, nameOf, handleNames, listNames}
+use Rattle.tally.specs.Lists.{Listed, nameOf, handleNames, listNames}
 use Rattle.question.specs.Linear.{slot?, slots?}
 use Rattle.tally.specs.Place.{slotIndex}
 use Rattle.question.specs.LinearObjects.{namedOf, named, countsOf, marksOf, keptThread?, keptProcess?, indexed, keptThreads?, keptBy?, objectsBy?, deadMark, deadMarks, live?, ownerBy?, contentBy?, contentsBy?, endAll?, walkAll, onceAll?, sharedOut?, chainsBy?, finePool?, recordsBy?, tables?, store?}
@@ -59,14 +59,14 @@ module _ (o : ℕ) (p : 0 < o) (q : o ≤ 128) where
 
 -- ---- counts and the free chain
 module _ (s : ObjectStore) (t : HandleTable) (ts : List th.Thread) (ns : length (s .slots) ≡ 128) (ne : length (t .entries) ≡ 256)
-    (nt : length ts ≡ 32) (a : All Eight ts) (nk : length (s .«thread_objects») ≡ 32) where
+    (nt : length ts ≡ 32) (a : All Listed ts) (nk : length (s .«thread_objects») ≡ 32) where
   abbrev counts : List ℕ
   counts = countsOf (t .entries) ts (s .«thread_objects») (s .«process_object» .0)
 
   abbrev marks : List ℕ
   marks = marksOf (nexts (s .slots)) (s .free)
 
-  all-lists : (l : List th.Thread) → All Eight l → All (λ (x : List ℕ). length x ≤ 8) (listNames l)
+  all-lists : (l : List th.Thread) → All Listed l → All (λ (x : List ℕ). length x ≤ waitList) (listNames l)
   all-lists [] e = tt
   all-lists (x ∷ l) e = (omega (arith, e .0, length-map (x .«wait_objects») (λ (o : ObjectId). nameOf (o .0))), all-lists l (e .1))
 
@@ -88,14 +88,14 @@ module _ (s : ObjectStore) (t : HandleTable) (ts : List th.Thread) (ns : length 
       let n₃ : length c₃ ≡ 129 = length-tally 129 c₂ ks ∙ n₂ in
       let w = all-lists ts a in
       let b₁ : (i : ℕ) → getD c₁ i 0 ≤ 256 = λ i. omega (arith, tally-le 129 os c₀ 0 refl (zero-le 129) (omega arith) i) in
-      let r : 256 + length ls * 8 ≤ 100000 = rw el (omega arith) in
-      let b₂ : (i : ℕ) → getD c₂ i 0 ≤ 512 = λ i. omega (arith, rw el at (tallyAll-le 129 8 ls c₁ 256 w n₁ b₁ r i)) in
-      let b₃ : (i : ℕ) → getD c₃ i 0 ≤ 544 = λ i. omega (arith, tally-le 129 ks c₂ 512 n₂ b₂ (omega arith) i) in
+      let r : 256 + length ls * waitList ≤ 100000 = rw el (omega arith) in
+      let b₂ : (i : ℕ) → getD c₂ i 0 ≤ 256 + 32 * waitList = λ i. omega (arith, rw el at (tallyAll-le 129 waitList ls c₁ 256 w n₁ b₁ r i)) in
+      let b₃ : (i : ℕ) → getD c₃ i 0 ≤ 288 + 32 * waitList = λ i. omega (arith, tally-le 129 ks c₂ (256 + 32 * waitList) n₂ b₂ (omega arith) i) in
       omega (
         arith,
         bump-get 129 c₃ n₃ (s .«process_object» .0) (omega (arith, b₃ (s .«process_object» .0))) o (omega arith),
-        tally-get 129 ks c₂ 512 n₂ b₂ (omega arith) o (omega arith),
-        tallyAll-get 129 8 ls c₁ 256 w n₁ b₁ r o (omega arith),
+        tally-get 129 ks c₂ (256 + 32 * waitList) n₂ b₂ (omega arith) o (omega arith),
+        tallyAll-get 129 waitList ls c₁ 256 w n₁ b₁ r o (omega arith),
         tally-get 129 os c₀ 0 refl (zero-le 129) (omega arith) o (omega arith),
         zero-get 129 o,
         names-count o p h (λ (e : HandleEntry). e .object .0) (t .entries),
@@ -182,7 +182,7 @@ kept-same s n =
       allTo-same 32 _ _ (λ i a b. thread-one (s .slots) n (getD (ids (s .«thread_objects»)) (i - 1) 0) (i - 1)),
     )
 
-pub objects-same : (s : ObjectStore) (t : HandleTable) (ts : List th.Thread) → length (s .slots) ≡ 128 → length (t .entries) ≡ 256 → length ts ≡ 32 → All Eight ts
+pub objects-same : (s : ObjectStore) (t : HandleTable) (ts : List th.Thread) → length (s .slots) ≡ 128 → length (t .entries) ≡ 256 → length ts ≡ 32 → All Listed ts
     → length (s .«thread_objects») ≡ 32
     → objectsBy? (kinds (s .slots)) (refs (s .slots)) (nexts (s .slots)) (named (s .slots)) (s .free)
     (countsOf (t .entries) ts (s .«thread_objects») (s .«process_object» .0)) (ids (s .«thread_objects»)) (s .«process_object» .0)
@@ -283,7 +283,7 @@ and-parts true false false d e f g = refl
 and-parts false b true d e f g = refl
 and-parts false b false d e f g = refl
 
-pub state-same : (k : Kernel) → StateFits k → All Eight (k .threads)
+pub state-same : (k : Kernel) → StateFits k → All Listed (k .threads)
     → tables? k and store? k (countsOf (k .handles .entries) (k .threads) (k .objects .«thread_objects») (k .objects .«process_object» .0)) ≡ state? k
 unfolding tables? store? state?
 state-same k f a =

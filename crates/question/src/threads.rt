@@ -5,6 +5,8 @@ use codec::Four;
 use types::thread::Thread;
 use types::thread::ThreadOption;
 use types::thread::ThreadStatus;
+use types::thread::WAIT_COUNT;
+use types::thread::WAIT_LIST;
 use units::ObjectId;
 ghost use mathlib.Core.Path.{_≡_};
 ghost use Prim.Native.Nat.{_+_, _-_, _<_};
@@ -31,11 +33,11 @@ fn one_place_ok(used: bool, o: ObjectId) -> bool
 }
 
 // Zeros.
-fn none_ok(l: [ObjectId; 8]) -> bool
+fn none_ok(l: [ObjectId; WAIT_LIST]) -> bool
     ensures { λ r. ⌜ r ≡ places? 0 (ids l) ⌝ }
 {
     let mut i: usize = 0;
-    while i < 8 {
+    while i < WAIT_LIST {
         let o = l[i];
         if o.0 != 0 {
             return false;
@@ -46,23 +48,23 @@ fn none_ok(l: [ObjectId; 8]) -> bool
 }
 
 // n object numbers, then zeros, of a list that is in use.
-fn some_ok(n: u32, l: [ObjectId; 8]) -> bool
+fn some_ok(n: u32, l: [ObjectId; WAIT_LIST]) -> bool
     ensures { λ r. ⌜ r ≡ places? n (ids l) ⌝ }
 {
     let mut bad: u32 = 0;
     let mut i: u32 = 0;
-    while i < 8 {
+    while i < WAIT_COUNT {
         bad += faults::fault(one_place_ok(i < n, l[i as usize]));
         i += 1;
     }
     if bad != 0 {
         return false;
     }
-    n <= 8
+    n <= WAIT_COUNT
 }
 
 // n object numbers, then zeros. Most threads wait on nothing.
-fn places_ok(n: u32, l: [ObjectId; 8]) -> bool
+fn places_ok(n: u32, l: [ObjectId; WAIT_LIST]) -> bool
     ensures { λ r. ⌜ r ≡ places? n (ids l) ⌝ }
 {
     if n == 0 {

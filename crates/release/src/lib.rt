@@ -8,6 +8,7 @@ use rows::read;
 use rows::write;
 use types::object::KObject;
 use types::object::Slot;
+use types::thread::WAIT_LIST;
 use units::ObjectId;
 ghost use mathlib.Core.Path.{_≡_};
 ghost use mathlib.Core.Bool.{false};
@@ -103,14 +104,14 @@ pub fn release(block: &mut [u8], o: ObjectId)
 }
 
 // The first n of a list, in order.
-pub fn release_list(block: &mut [u8], l: [ObjectId; 8], n: u32)
+pub fn release_list(block: &mut [u8], l: [ObjectId; WAIT_LIST], n: u32)
     requires { ⌜ length (now block) ≡ 16384 ⌝ }
     requires { ⌜ Encoded (now block) ⌝ }
     ensures { λ _. ⌜ decBlock (now (block .exit)) ≡ withThreads (decBlock (now (block .entry))) (decBlock (now (block .entry)) .threads) (def.releases (decBlock (now (block .entry)) .objects) (take n (ids l))) ⌝ }
     ensures { λ _. ⌜ Encoded (now (block .exit)) ⌝ }
 {
     let mut i: usize = 0;
-    while i < 8 {
+    while i < WAIT_LIST {
         if n <= i as u32 {
             return;
         }

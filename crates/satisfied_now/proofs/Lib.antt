@@ -1,2 +1,3 @@
 -- The laws that the proofs of `satisfied_now` cite.
 pub mod Open
+pub mod Wide

@@ -16,20 +16,20 @@ use Rattle.units.specs.declared.ObjectId.{ObjectId}
 use Rattle.types.specs.declared.kernel.Kernel.{Kernel}
 use Rattle.types.specs.declared.thread.ThreadOption.the-variants.{SomeThread}
 use Rattle.pass.specs.Timers.{timerDue}
-use Rattle.pass.specs.Asks.{unsatisfied, padded, openObject, satisfiedBy}
+use Rattle.pass.specs.Asks.{waitAtOnce, unsatisfied, padded, openObject, satisfiedBy}
 use Rattle.pass.specs.Padded.{padded-more}
 use Rattle.satisfied_now.specs.Found.{satisfiedIn, satisfied-is}
 
 -- ---- the loop that opens the handles
-pub open-more : (k : Kernel) (s : List ℕ) (i : ℕ) (l : List ObjectId) (r : ObjectId) → i < 8
-    → l ≡ padded 8 (map (openObject k) (decAll num 4 i s 0)) → r .0 ≡ openObject k (num (take 4 (drop (i * 4) s)))
-    → set l i r ≡ padded 8 (map (openObject k) (decAll num 4 (i + 1) s 0))
+pub open-more : (k : Kernel) (s : List ℕ) (i : ℕ) (l : List ObjectId) (r : ObjectId) → i < waitAtOnce
+    → l ≡ padded waitAtOnce (map (openObject k) (decAll num 4 i s 0)) → r .0 ≡ openObject k (num (take 4 (drop (i * 4) s)))
+    → set l i r ≡ padded waitAtOnce (map (openObject k) (decAll num 4 (i + 1) s 0))
 open-more k s i l r h e f =
     let os : List ℕ = map (openObject k) (decAll num 4 i s 0) in
     let n : length os ≡ i = length-map (decAll num 4 i s 0) (openObject k) ∙ length-decAll num 4 i s 0 in
     let m : map (openObject k) (decAll num 4 (i + 1) s 0) ≡ os ++ (r .0 ∷ []) =
     rw (decAll-more num 4 i s 0, map-append, zero-add, f) in
-    let p : set (padded 8 os) (length os) (record { 0 = r .0 }) ≡ padded 8 (os ++ (r .0 ∷ [])) = padded-more 8 os (r .0) (omega arith) in
+    let p : set (padded waitAtOnce os) (length os) (record { 0 = r .0 }) ≡ padded waitAtOnce (os ++ (r .0 ∷ [])) = padded-more waitAtOnce os (r .0) (omega arith) in
     rw (e, m) (rw n at p)
 
 -- ---- the cases of a wait on n handles
@@ -37,17 +37,17 @@ module _ (k : Kernel) (c n : ℕ) (s : List ℕ) (all : Bool) (tick : ℕ) where
   abbrev hs : List ℕ
   hs = decAll num 4 n s 0
 
-  pub many : 8 < n → unsatisfied ≡ satisfiedBy (SomeThread c) k hs all tick
+  pub many : waitAtOnce < n → unsatisfied ≡ satisfiedBy (SomeThread c) k hs all tick
   unfolding _or_
-  many h = rw (length-decAll num 4 n s 0, lt-ltb 8 n h)
+  many h = rw (length-decAll num 4 n s 0, lt-ltb waitAtOnce n h)
 
-  pub fires : n ≤ 8 → timerDue tick (k .objects .slots) ≡ true → unsatisfied ≡ satisfiedBy (SomeThread c) k hs all tick
+  pub fires : n ≤ waitAtOnce → timerDue tick (k .objects .slots) ≡ true → unsatisfied ≡ satisfiedBy (SomeThread c) k hs all tick
   unfolding _or_
-  fires h e = rw (length-decAll num 4 n s 0, le-ltb 8 n h, e)
+  fires h e = rw (length-decAll num 4 n s 0, le-ltb waitAtOnce n h, e)
 
-  pub looked : n ≤ 8 → timerDue tick (k .objects .slots) ≡ false
-      → satisfiedIn k c (padded 8 (map (openObject k) hs)) n all ≡ satisfiedBy (SomeThread c) k hs all tick
+  pub looked : n ≤ waitAtOnce → timerDue tick (k .objects .slots) ≡ false
+      → satisfiedIn k c (padded waitAtOnce (map (openObject k) hs)) n all ≡ satisfiedBy (SomeThread c) k hs all tick
   unfolding _or_
   looked h e =
-      rw (length-decAll num 4 n s 0, le-ltb 8 n h, e)
+      rw (length-decAll num 4 n s 0, le-ltb waitAtOnce n h, e)
       (satisfied-is k c n (map (openObject k) hs) all (length-map hs (openObject k) ∙ length-decAll num 4 n s 0) h)

@@ -17,6 +17,7 @@ use Rattle.types.specs.declared.thread.Thread.{Thread}
 use Rattle.types.specs.declared.sync.Timer as ti
 use Rattle.types.specs.declared.object.Slot.{Slot}
 use Rattle.types.specs.declared.object.ObjectStore.{ObjectStore}
+use Rattle.types.specs.Thread.{waitList}
 use Rattle.object.specs.Slots.{withSlots}
 use Rattle.kernel.specs.NextEvent.{dueOf}
 use Rattle.pass.specs.Timers.{dueBy, firedAt, firedAs, overAt, overOf, fireTimers, timerDue, lostSlot, lostSlots, catchUpTimers}
@@ -61,7 +62,7 @@ lost-same waited s e = rw e
 
 -- ---- by the marks, those that no thread waits on
 module _ (s : ObjectStore) (ts : List Thread) (tick : ℕ) where
-  pub caught : timerDue tick (s .slots) ≡ true → length ts ≡ 32 → All (λ l. length l ≤ 8) (syncLists ts)
+  pub caught : timerDue tick (s .slots) ≡ true → length ts ≡ 32 → All (λ l. length l ≤ waitList) (syncLists ts)
       → (f : ObjectStore) → f ≡ fireTimers s tick → length (f .slots) ≡ 128
       → (m : List ℕ) → m ≡ tallyAll 129 (replicate 129 0) (syncLists ts) → withSlots f (lostMarked m 1 (f .slots)) ≡ catchUpTimers s ts tick
   unfolding catchUpTimers

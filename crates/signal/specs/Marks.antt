@@ -9,6 +9,7 @@ use Rattle.laws.specs.All.{All}
 use Rattle.laws.specs.Tally.{tallyAll}
 use Rattle.types.specs.declared.thread.Thread.{Thread}
 use Rattle.types.specs.declared.object.Slot.{Slot}
+use Rattle.types.specs.Thread.{waitList}
 use Rattle.kernel.specs.Marks.{listBy, marks-tell}
 use Rattle.pass.specs.Signal.{waitsSync, waitedSync}
 use Rattle.pass.specs.Timers.{lostSlot, lostSlots}
@@ -25,7 +26,7 @@ unfoldable pub lostMarked : List ℕ → ℕ → List Slot → List Slot
 lostMarked m o [] = []
 lostMarked m o (s ∷ ss) = lostSlot (ltb 0 (getD m o 0)) s ∷ lostMarked m (suc o) ss
 
-module _ (ts : List Thread) (n : length ts ≡ 32) (a : All (λ l. length l ≤ 8) (syncLists ts)) where
+module _ (ts : List Thread) (n : length ts ≡ 32) (a : All (λ l. length l ≤ waitList) (syncLists ts)) where
   marked : (o : ℕ) → o < 129 → ltb 0 (getD (tallyAll 129 (replicate 129 0) (syncLists ts)) o 0) ≡ waitedSync ts o
   unfolding waitedSync
   marked o h = marks-tell waitsSync waitedSync (λ o. refl) (λ t ts o. refl) ts n a o h

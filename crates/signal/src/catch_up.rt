@@ -8,6 +8,7 @@ ghost use mathlib.Core.Path.{_≡_};
 ghost use Prim.Native.Nat.{_≤_};
 ghost use lib.ListN.{length};
 ghost use Rattle.laws.specs.Tally.{tally};
+ghost use Rattle.types.specs.Thread.{waitList};
 ghost use Rattle.pass.specs.Timers as def;
 ghost use Rattle.signal.specs.Marks.{syncList};
 
@@ -48,7 +49,7 @@ pub fn lost_slot(waited: bool, s: Slot) -> Slot
 // One more for each object that the thread waits on.
 pub fn mark_list(m: &mut [u32; 129], t: Thread)
     ensures { λ _. ⌜ now (m .exit) ≡ tally 129 (now (m .entry)) (syncList t) ⌝ }
-    ensures { λ _. ⌜ length (syncList t) ≤ 8 ⌝ }
+    ensures { λ _. ⌜ length (syncList t) ≤ waitList ⌝ }
 {
     let s = t.status;
     if !event::waits_sync(s) {

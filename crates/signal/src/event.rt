@@ -6,6 +6,7 @@ use types::sync::Event;
 use types::sync::ResetType;
 use types::thread::Thread;
 use types::thread::ThreadStatus;
+use types::thread::WAIT_LIST;
 use units::ObjectId;
 ghost use mathlib.Core.Path.{_≡_};
 ghost use Rattle.laws.specs.Logic.{_and_};
@@ -27,12 +28,12 @@ pub fn waits_sync(s: ThreadStatus) -> bool
     }
 }
 
-pub fn contains_id(l: [ObjectId; 8], o: ObjectId) -> bool
+pub fn contains_id(l: [ObjectId; WAIT_LIST], o: ObjectId) -> bool
     ensures { λ r. ⌜ r ≡ contains (ids l) (o .0) ⌝ }
 {
     let n = o.0;
     let mut i: usize = 0;
-    while i < 8 {
+    while i < WAIT_LIST {
         let x = l[i];
         if x.0 == n {
             return true;

@@ -36,7 +36,7 @@ use Rattle.soundness.specs.Objects.{ObOk, ok-as, release-ok, release-ful
 use Rattle.soundness.specs.Kept.{unkept, unkept-ok}
 use Rattle.soundness.specs.Records.{ChainsOk, chain-more, release-chains, dropThread-ok, dropThread-chains, dropThread-full}
 use Rattle.soundness.specs.Each.{each-release, each-dropThread, content-free, content-head}
-use Rattle.soundness.specs.Fits.{Word, StoreFits, release-fits, unkept-fits, dropThread-fits}
+use Rattle.soundness.specs.Fits.{Word, StoreFits, release-fits, unkept-fits, dropThread-fits, no-objects, none-fit}
 use Rattle.soundness.specs.Threads.{Others, threads-set, dead-list, names-same, content-more, live-set}
 use Rattle.soundness.specs.Tls.{free-from, tls-new}
 use Rattle.soundness.specs.Whole.{Parts, sound-parts, parts-sound}
@@ -151,7 +151,7 @@ ended-dead k h l =
 
 -- ---- the new thread
 pub new-zeros : (entry stack priority processor tls guest : ℕ) → Zeros (ids (newThread entry stack priority processor tls guest .«wait_objects»))
-new-zeros entry stack priority processor tls guest = (refl, (refl, (refl, (refl, (refl, (refl, (refl, (refl, tt))))))))
+new-zeros entry stack priority processor tls guest = no-objects
 
 pub new-place : (n : ℕ) (c : ThreadOption) (i entry stack priority processor tls guest : ℕ) → i < n → priority ≤ 63 → PlaceOk n c i (newThread entry stack priority processor tls guest)
 new-place n c i entry stack priority processor tls guest l p = record {
@@ -167,7 +167,7 @@ new-fits entry stack priority processor tls guest we ws p wp wt wg =
     let r : 2 < 256 ^ 4 = omega arith in
     let q : Word priority = omega arith in (
       r & q & we & ws & wt & wp & z & z & o & z & z & z & z & z & z & wg & y & y & tt,
-      (z, (z, (z, (z, (z, (z, (z, (z, tt)))))))),
+      none-fit,
       refl,
     )
 

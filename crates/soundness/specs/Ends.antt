@@ -38,7 +38,7 @@ use Rattle.soundness.specs.Waits.{names-set, same-wait-ok, end-wait-ok}
 use Rattle.soundness.specs.Same.{contents-same}
 use Rattle.soundness.specs.Records.{chains-same, releases-chains}
 use Rattle.soundness.specs.Each.{each-releases, content-free}
-use Rattle.soundness.specs.Fits.{Word, KeepsFit, z4, z8, slot-of, of-slot, all-slots, withSlots-fits, releases-fits}
+use Rattle.soundness.specs.Fits.{Word, KeepsFit, z4, z8, slot-of, of-slot, all-slots, withSlots-fits, releases-fits, no-objects, none-fit}
 use Rattle.soundness.specs.Tls.{tls-ended, tls-same}
 use Rattle.soundness.specs.Threads.{thread-same, thread-other, threads-set, content-more, live-ended}
 use Rattle.soundness.specs.Whole.{Parts, sound-parts, parts-sound}
@@ -55,12 +55,12 @@ only-none WaitArbiter = refl
 only-none Dormant = refl
 
 no-list : (t : th.Thread) → Zeros (ids (clearWait t .«wait_objects»))
-no-list t = (refl, (refl, (refl, (refl, (refl, (refl, (refl, (refl, tt))))))))
+no-list t = no-objects
 
 clearWait-fits : (t : th.Thread) → ThreadFits t → ThreadFits (clearWait t)
 clearWait-fits t f =
     let a = f .0 in
-    ((a .0, (a .1 .0, (a .1 .1 .0, (a .1 .1 .1 .0, (a .1 .1 .1 .1 .0, (a .1 .1 .1 .1 .1 .0, (z4, (z4, (a .1 .1 .1 .1 .1 .1 .1 .1 .0, (z4, (z4, (z4, (a .1 .1 .1 .1 .1 .1 .1 .1 .1 .1 .1 .1 .0, (a .1 .1 .1 .1 .1 .1 .1 .1 .1 .1 .1 .1 .1 .0, (a .1 .1 .1 .1 .1 .1 .1 .1 .1 .1 .1 .1 .1 .1 .0, (a .1 .1 .1 .1 .1 .1 .1 .1 .1 .1 .1 .1 .1 .1 .1 .0, (z8, (a .1 .1 .1 .1 .1 .1 .1 .1 .1 .1 .1 .1 .1 .1 .1 .1 .1 .0, tt)))))))))))))))))), (z4, (z4, (z4, (z4, (z4, (z4, (z4, (z4, tt)))))))), refl)
+    ((a .0, (a .1 .0, (a .1 .1 .0, (a .1 .1 .1 .0, (a .1 .1 .1 .1 .0, (a .1 .1 .1 .1 .1 .0, (z4, (z4, (a .1 .1 .1 .1 .1 .1 .1 .1 .0, (z4, (z4, (z4, (a .1 .1 .1 .1 .1 .1 .1 .1 .1 .1 .1 .1 .0, (a .1 .1 .1 .1 .1 .1 .1 .1 .1 .1 .1 .1 .1 .0, (a .1 .1 .1 .1 .1 .1 .1 .1 .1 .1 .1 .1 .1 .1 .0, (a .1 .1 .1 .1 .1 .1 .1 .1 .1 .1 .1 .1 .1 .1 .1 .0, (z8, (a .1 .1 .1 .1 .1 .1 .1 .1 .1 .1 .1 .1 .1 .1 .1 .1 .1 .0, tt)))))))))))))))))), none-fit, refl)
 
 ended-fits : (t : th.Thread) → ThreadFits t → ThreadFits (ended t)
 ended-fits t f =

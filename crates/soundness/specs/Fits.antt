@@ -6,9 +6,9 @@ use Prim.Native.Nat.{ℕ, zero, suc, _+_, _^_, _<_}
 use native.Mathlib.Omega.{arith}
 use lib.Dec.{eqb, leb, ltb}
 use borrow.Author.Tests.{ltb-true}
-use lib.ListN.{set}
+use lib.ListN.{set, replicate}
 use Rattle.laws.specs.Logic.{pick}
-use Rattle.laws.specs.All.{All, all-set, all-get, all-map, all-as}
+use Rattle.laws.specs.All.{All, all-set, all-get, all-map, all-as, all-replicate}
 use Rattle.laws.specs.Count.{at}
 use Rattle.laws.specs.Walk.{walk}
 use Rattle.types.specs.declared.thread.ThreadOption.{ThreadOption}
@@ -21,11 +21,13 @@ use Rattle.types.specs.declared.object.HandleEntry.{HandleEntry}
 use Rattle.types.specs.declared.object.HandleTable.{HandleTable}
 use Rattle.types.specs.declared.object.ObjectStore.{ObjectStore}
 use Rattle.types.specs.Object.{nextOf, headOf}
+use Rattle.types.specs.Thread.{waitList}
 use Rattle.codec.proofs.Fit.{flag-fits}
 use Rattle.block.specs.Slot.{objectWords}
 use Rattle.block.proofs.Enums.{ObjectFits}
 use Rattle.block.proofs.Fits.{IdFits, EntryFits, WaiterFits, SlotFits}
-use Rattle.sound.specs.View.{waiterNexts, waiterThreads, waiterAddresses, noSlot, slotAt, objectAt}
+use Rattle.sound.specs.View.{ids, waiterNexts, waiterThreads, waiterAddresses, noSlot, slotAt, objectAt}
+use Rattle.sound.specs.Threads.{Zeros}
 use Rattle.sound.specs.Objects.{keptAt}
 use Rattle.sound.specs.Records.{chainOf, has?}
 use Rattle.object.specs.Slots.{slotPut, withSlots, withKept, withProcess}
@@ -72,6 +74,17 @@ z4 = omega arith
 
 pub z8 : 0 < 256 ^ 8
 z8 = omega arith
+
+-- the list of a thread that waits for nothing
+zeros-none : (n : ℕ) → Zeros (ids (replicate n (record { 0 = 0 })))
+zeros-none zero = tt
+zeros-none (suc n) = (refl, zeros-none n)
+
+pub no-objects : Zeros (ids (replicate waitList (record { 0 = 0 })))
+no-objects = zeros-none waitList
+
+pub none-fit : All IdFits (replicate waitList (record { 0 = 0 }))
+none-fit = all-replicate IdFits waitList (record { 0 = 0 }) z4
 
 pub free-fits : (n : ℕ) → Word n → KeepsFit (Free n)
 free-fits n w = record { kind = z4; a = w; b = z4; c = z4; x = z8; y = z8 }

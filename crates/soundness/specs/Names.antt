@@ -13,6 +13,7 @@ use Rattle.types.specs.declared.thread.Thread.{Thread}
 use Rattle.types.specs.declared.object.HandleEntry.{HandleEntry}
 use Rattle.types.specs.declared.object.HandleTable.{HandleTable}
 use Rattle.types.specs.declared.object.ObjectStore.{ObjectStore}
+use Rattle.types.specs.Thread.{waitList}
 use Rattle.block.proofs.Fits.{ThreadFits}
 use Rattle.sound.specs.View.{ids, handled, lists, noThread, threadAt}
 use Rattle.sound.specs.Threads.{Places}
@@ -30,7 +31,7 @@ unfolding count
 count-length a [] = omega arith
 count-length a (x ∷ xs) = omega (arith, ind-one x a, count-length a xs)
 
-waits-bound : (i : ℕ) (ts : List Thread) → All ThreadFits ts → countAll i (lists ts) ≤ 8 * length ts
+waits-bound : (i : ℕ) (ts : List Thread) → All ThreadFits ts → countAll i (lists ts) ≤ waitList * length ts
 unfolding countAll
 waits-bound i [] a = omega arith
 waits-bound i (t ∷ ts) a =
@@ -38,7 +39,7 @@ waits-bound i (t ∷ ts) a =
 
 -- so the guard of `addRef` never holds one back
 pub names-bound : (t : HandleTable) (ts : List Thread) (s : ObjectStore) (o : ℕ) → length (t .entries) ≡ 256 → length ts ≡ 32 → All ThreadFits ts → length (s .«thread_objects») ≡ 32
-    → names t ts o + keptNames s o ≤ 545
+    → names t ts o + keptNames s o ≤ 289 + 32 * waitList
 unfolding names keptNames
 names-bound t ts s o ne nt a ni =
     omega (

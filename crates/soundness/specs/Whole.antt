@@ -1,12 +1,13 @@
 -- A sound state is its parts, widths among them: what a primitive takes and what it gives back.
 use mathlib.Core.Path.{_≡_, refl}
-use Prim.Native.Nat.{ℕ, _+_, _^_, _≤_, _<_}
+use Prim.Native.Nat.{ℕ, _+_, _^_, _≤_, _<_, _*_}
 use native.Mathlib.Omega.{arith}
 use lib.ListN.{length}
 use Rattle.laws.specs.All.{All}
 use Rattle.laws.specs.Count.{count, countAll}
 use Rattle.types.specs.declared.kernel.Kernel.{Kernel}
 use Rattle.types.specs.Thread.{threadValue}
+use Rattle.types.specs.Thread.{waitList}
 use Rattle.codec.proofs.Fit.{flag-fits}
 use Rattle.block.proofs.Enums.{thread-flag-fits}
 use Rattle.block.proofs.Fits.{ThreadFits, Clean, StateFits}
@@ -127,5 +128,5 @@ unfolding names
 names-of k i = refl
 
 -- in a sound state no count comes near the guard of `addRef`
-pub few-names : (k : Kernel) → Parts k → (o : ℕ) → names (k .handles) (k .threads) o + keptNames (k .objects) o ≤ 545
+pub few-names : (k : Kernel) → Parts k → (o : ℕ) → names (k .handles) (k .threads) o + keptNames (k .objects) o ≤ 289 + 32 * waitList
 few-names k p o = names-bound (k .handles) (k .threads) (k .objects) o (p .table .ne) (p .nt) (p .threadsFit) (p .ob .ni)

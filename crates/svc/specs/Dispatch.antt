@@ -9,6 +9,7 @@ use Rattle.types.specs.declared.thread.ThreadOption.{ThreadOption}
 use Rattle.types.specs.declared.thread.ThreadOption.the-variants.{NoThread, SomeThread}
 use Rattle.types.specs.declared.thread.Thread.{Thread}
 use Rattle.types.specs.declared.kernel.Kernel.{Kernel}
+use Rattle.types.specs.Thread.{waitList}
 use Rattle.sound.specs.View.{threadAt}
 use Rattle.pass.specs.Pick.{isRunning}
 use Rattle.svc.specs.declared.Registers.{Registers}
@@ -36,7 +37,7 @@ runs? k = runsAs (k .«current_thread») (k .threads)
 
 -- question 5: at most 8 handles
 unfoldable pub tooMany? : ℕ → Registers → Bool
-tooMany? number r = eqb number 0x25 and ltb 8 (r .r2)
+tooMany? number r = eqb number 0x25 and ltb waitList (r .r2)
 
 -- question 6: the words are wholly in the window of len bytes from base, and the address is a multiple of 4
 abbrev pub inWindow : ℕ → ℕ → ℕ → ℕ → Bool

@@ -15,6 +15,7 @@ use Rattle.types.specs.declared.thread.WaitSyscall.the-variants.{WaitSynchroniz
 use Rattle.types.specs.declared.object.HandleTable.{HandleTable}
 use Rattle.types.specs.declared.object.ObjectStore.{ObjectStore}
 use Rattle.types.specs.declared.kernel.Kernel.{Kernel}
+use Rattle.types.specs.Thread.{waitList}
 use Rattle.sound.specs.View.{objectAt, threadAt}
 use Rattle.object.specs.declared.kept.Resolved.{Resolved}
 use Rattle.object.specs.Kept.{resolve}
@@ -38,7 +39,7 @@ waitTime nanos = pick (negative nanos) NoTick (SomeTick (nanosToTicks (record { 
 -- the thread waits on the objects os, and the call is noted for its result; no register is written until then
 abbrev pub waitOn : Kernel → ℕ → List ℕ → Bool → ℕ → ℕ → WaitSyscall → Served
 waitOn k c os all nanos tick call =
-    let b : Kernel = beginWait k (padded 8 os) (length os) all (waitTime nanos) tick in
+    let b : Kernel = beginWait k (padded waitList os) (length os) all (waitTime nanos) tick in
     silent (withThreads b (set (b .threads) c (withResult (threadAt (b .threads) c) (threadAt (b .threads) c .«wait_result») call)) (b .objects))
 
 -- a time-out of 0 does not wait

@@ -2,6 +2,7 @@
 use rows::read;
 use svc::Registers;
 use types::thread::ThreadOption;
+use types::thread::WAIT_COUNT;
 ghost use mathlib.Core.Path.{_≡_};
 ghost use lib.ListN.{length};
 ghost use Rattle.block.specs.Block.{decBlock};
@@ -59,14 +60,14 @@ pub fn runs(block: &[u8]) -> bool
     runs_as(current, block)
 }
 
-// Question 5: at most 8 handles.
+// Question 5: no more handles than a thread's list has places.
 fn too_many(number: u32, r: Registers) -> bool
     ensures { λ b. ⌜ b ≡ def.tooMany? number r ⌝ }
 {
     if number != 0x25 {
         return false;
     }
-    8 < r.r2
+    WAIT_COUNT < r.r2
 }
 
 fn in_window(base: u32, len: u64, a: u32, n: u32) -> bool

@@ -1,6 +1,7 @@
 // What a wait that is satisfied takes of its objects, in the block where it lies (`acquire` of mod.rs).
 use rows::read;
 use rows::write;
+use types::thread::WAIT_LIST;
 use units::ObjectId;
 ghost use mathlib.Core.Path.{_≡_};
 ghost use mathlib.Core.Bool.{true, false};
@@ -33,7 +34,7 @@ pub fn take(block: &mut [u8], o: ObjectId, w: u32) -> bool
 
 // The first n of a list, one after the other. True if a count does not fit any more; those before it are taken then.
 // The block is left open then, but for being sound: the callers refuse and put back a copy.
-pub fn take_list(block: &mut [u8], l: [ObjectId; 8], n: u32, w: u32) -> bool
+pub fn take_list(block: &mut [u8], l: [ObjectId; WAIT_LIST], n: u32, w: u32) -> bool
     requires { ⌜ length (now block) ≡ 16384 ⌝ }
     requires { ⌜ sound? (now block) ≡ true ⌝ }
     requires { ⌜ Live (decBlock (now block) .threads) w ⌝ }
@@ -42,7 +43,7 @@ pub fn take_list(block: &mut [u8], l: [ObjectId; 8], n: u32, w: u32) -> bool
     ensures { λ _. ⌜ sound? (now (block .exit)) ≡ true ⌝ }
 {
     let mut i: usize = 0;
-    while i < 8 {
+    while i < WAIT_LIST {
         if n <= i as u32 {
             return false;
         }

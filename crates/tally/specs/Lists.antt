@@ -1,4 +1,4 @@
--- Wait lists of eight places, and the TLS slots of threads.
+-- Wait lists with all their places, and the TLS slots of threads.
 use mathlib.Core.Path.{_≡_}
 use mathlib.Core.List.{List, [], map}
 use Prim.Native.Nat.{ℕ}
@@ -8,12 +8,12 @@ use Rattle.laws.specs.Logic.{pick}
 use Rattle.units.specs.declared.ObjectId.{ObjectId}
 use Rattle.types.specs.declared.object.HandleEntry.{HandleEntry}
 use Rattle.types.specs.declared.thread.Thread.{Thread}
-use Rattle.types.specs.Thread.{isDead}
+use Rattle.types.specs.Thread.{waitList, isDead}
 use Rattle.sound.specs.Tls.{heldIf}
 
--- each list has eight places
-abbrev pub Eight : Thread → Type 0
-Eight t = length (t .«wait_objects») ≡ 8
+-- a list has all its places
+abbrev pub Listed : Thread → Type 0
+Listed t = length (t .«wait_objects») ≡ waitList
 
 -- the TLS slot of a thread, if it is live
 abbrev pub slotOf : Thread → List ℕ

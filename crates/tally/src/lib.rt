@@ -3,11 +3,13 @@ pub mod columns;
 pub mod place;
 
 use types::thread::Thread;
+use types::thread::WAIT_LIST;
 use units::ObjectId;
 ghost use mathlib.Core.Path.{_≡_};
 ghost use Prim.Native.Nat.{_+_};
 ghost use lib.ListN.{length};
 ghost use Rattle.laws.specs.Tally.{bump, tally};
+ghost use Rattle.types.specs.Thread.{waitList};
 ghost use Rattle.sound.specs.View.{ids};
 ghost use Rattle.tally.specs.Lists.{slotOf, nameOf, names};
 
@@ -37,12 +39,12 @@ pub fn name(x: u32) -> u32
 }
 
 // One more for each object of one list.
-pub fn tally_list(c: &mut [u32; 129], l: [ObjectId; 8])
+pub fn tally_list(c: &mut [u32; 129], l: [ObjectId; WAIT_LIST])
     ensures { λ _. ⌜ now (c .exit) ≡ tally 129 (now (c .entry)) (ids l) ⌝ }
-    ensures { λ _. ⌜ length l ≡ 8 ⌝ }
+    ensures { λ _. ⌜ length l ≡ waitList ⌝ }
 {
     let mut i: usize = 0;
-    while i < 8 {
+    while i < WAIT_LIST {
         let o = l[i];
         bump_at(c, o.0);
         i += 1;
@@ -50,12 +52,12 @@ pub fn tally_list(c: &mut [u32; 129], l: [ObjectId; 8])
 }
 
 // One more for each object that a list names.
-pub fn tally_names(c: &mut [u32; 129], l: [ObjectId; 8])
+pub fn tally_names(c: &mut [u32; 129], l: [ObjectId; WAIT_LIST])
     ensures { λ _. ⌜ now (c .exit) ≡ tally 129 (now (c .entry)) (names l) ⌝ }
-    ensures { λ _. ⌜ length l ≡ 8 ⌝ }
+    ensures { λ _. ⌜ length l ≡ waitList ⌝ }
 {
     let mut i: usize = 0;
-    while i < 8 {
+    while i < WAIT_LIST {
         let o = l[i];
         let n = name(o.0);
         bump_at(c, n);

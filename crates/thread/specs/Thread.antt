@@ -13,6 +13,7 @@ use Rattle.types.specs.declared.thread.WaitSyscall.{WaitSyscall}
 use Rattle.types.specs.declared.thread.WaitSyscall.the-variants.{NoSyscall}
 use Rattle.types.specs.declared.thread.Thread.{Thread}
 use Rattle.types.specs.declared.thread.ThreadContext.{ThreadContext}
+use Rattle.types.specs.Thread.{waitList}
 
 -- Ready, waiting for nothing, and as if it had waited; tls is its TLS slot
 abbrev pub newThread : ℕ → ℕ → ℕ → ℕ → ℕ → ℕ → Thread
@@ -23,7 +24,7 @@ newThread entry stack priority processor tls guest = record {
   «stack_top» = stack;
   tls = tls;
   «processor_id» = processor;
-  «wait_objects» = replicate 8 (record { 0 = 0 });
+  «wait_objects» = replicate waitList (record { 0 = 0 });
   «wait_count» = 0;
   «wait_all» = false;
   «wakeup_at» = NoTick;
@@ -59,7 +60,7 @@ clearWait t = record {
   «stack_top» = t .«stack_top»;
   tls = t .tls;
   «processor_id» = t .«processor_id»;
-  «wait_objects» = replicate 8 (record { 0 = 0 });
+  «wait_objects» = replicate waitList (record { 0 = 0 });
   «wait_count» = 0;
   «wait_all» = false;
   «wakeup_at» = NoTick;

@@ -4,6 +4,7 @@ use types::thread::Thread;
 use types::thread::ThreadContext;
 use types::thread::ThreadStatus;
 use types::thread::TickOption;
+use types::thread::WAIT_LIST;
 use types::thread::WaitResult;
 use types::thread::WaitSyscall;
 use units::ObjectId;
@@ -30,7 +31,7 @@ pub fn new_thread(
         stack_top: stack_top,
         tls: tls,
         processor_id: processor_id,
-        wait_objects: [none; 8],
+        wait_objects: [none; WAIT_LIST],
         wait_count: 0,
         wait_all: false,
         wakeup_at: TickOption::NoTick,
@@ -86,7 +87,7 @@ fn cleared(t: Thread) -> Thread
         stack_top: t.stack_top,
         tls: t.tls,
         processor_id: t.processor_id,
-        wait_objects: [none; 8],
+        wait_objects: [none; WAIT_LIST],
         wait_count: 0,
         wait_all: false,
         wakeup_at: wake,

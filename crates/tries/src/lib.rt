@@ -9,6 +9,8 @@ use rows::read;
 use rows::write;
 use types::thread::Thread;
 use types::thread::ThreadStatus;
+use types::thread::WAIT_COUNT;
+use types::thread::WAIT_LIST;
 use types::thread::WaitResult;
 use units::ObjectId;
 use units::Ticks;
@@ -68,10 +70,10 @@ fn is_over(f: Fate) -> bool
 }
 
 // The object at a place of a list, none past its end.
-fn object_at(l: [ObjectId; 8], i: u32) -> ObjectId
+fn object_at(l: [ObjectId; WAIT_LIST], i: u32) -> ObjectId
     ensures { λ r. ⌜ r .0 ≡ getD (ids l) i 0 ⌝ }
 {
-    if 8 <= i {
+    if WAIT_COUNT <= i {
         return ObjectId(0);
     }
     l[i as usize]

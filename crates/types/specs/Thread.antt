@@ -15,6 +15,10 @@ use Rattle.types.specs.declared.thread.WaitResult.the-variants.{NoResult
 use Rattle.types.specs.declared.thread.WaitSyscall.{WaitSyscall}
 use Rattle.types.specs.declared.thread.WaitSyscall.the-variants.{NoSyscall, WaitSynchronization1, WaitSynchronizationN, ArbitrateAddress, SleepThread}
 
+-- ---- the places of a thread's list: the most handles in one wait
+abbrev pub waitList : ℕ
+waitList = 12
+
 -- ---- options: a flag, 1 if there is a value, and the value, 0 if there is none
 abbrev pub threadFlag : ThreadOption → ℕ
 threadFlag NoThread = 0

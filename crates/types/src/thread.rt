@@ -5,6 +5,11 @@ ghost use mathlib.Core.Path.{_≡_};
 ghost use Rattle.types.specs.Thread.{threadFlag, threadValue, threadOption, tickFlag, tickValue, tickOption, addressFlag, addressValue, addressOption, statusNumber, statusOf, isBlocked, isDead, resultNumber, resultIndex, resultOf, syscallNumber, syscallOf};
 ghost use Rattle.types.specs.Tests.{noResult?, noSyscall?};
 
+// The places of a thread's list: the most handles in one wait. `waitList` of specs/Thread.antt has the same number.
+pub const WAIT_LIST: usize = 12;
+// The same as a word, for what guests and records count.
+pub const WAIT_COUNT: u32 = WAIT_LIST as u32;
+
 // A thread number, or none.
 pub enum ThreadOption {
     NoThread,
@@ -64,7 +69,7 @@ pub struct Thread {
     pub tls: u32,
     pub processor_id: u32,
     // The first wait_count are the objects that the thread waits on, the rest are 0.
-    pub wait_objects: [ObjectId; 8],
+    pub wait_objects: [ObjectId; WAIT_LIST],
     pub wait_count: u32,
     // Whether all of them are needed.
     pub wait_all: bool,

@@ -2,6 +2,7 @@
 use pass::IndexOption;
 use rows::read;
 use types::object::KObject;
+use types::thread::WAIT_LIST;
 use units::ObjectId;
 ghost use mathlib.Core.Path.{_≡_};
 ghost use mathlib.Core.Bool.{true};
@@ -50,12 +51,12 @@ fn as_wanted(block: &[u8], o: ObjectId, w: u32, want: bool) -> bool
 }
 
 // The first of n places whose signal for thread w is as wanted.
-fn first_in(block: &[u8], l: [ObjectId; 8], n: u32, w: u32, want: bool) -> IndexOption
+fn first_in(block: &[u8], l: [ObjectId; WAIT_LIST], n: u32, w: u32, want: bool) -> IndexOption
     requires { ⌜ length (now block) ≡ 16384 ⌝ }
     ensures { λ r. ⌜ r ≡ firstWhere (decBlock (now (block .entry)) .threads) (decBlock (now (block .entry)) .objects .slots) w want 0 (take n (ids l)) ⌝ }
 {
     let mut i: usize = 0;
-    while i < 8 {
+    while i < WAIT_LIST {
         if n <= i as u32 {
             return IndexOption::NoIndex;
         }
@@ -88,7 +89,13 @@ fn index_for(all: bool, first: IndexOption) -> IndexOption
 }
 
 // The index that a wait of thread w on the first n of the list gives now.
-pub fn satisfied_at(block: &[u8], w: u32, all: bool, l: [ObjectId; 8], n: u32) -> IndexOption
+pub fn satisfied_at(
+    block: &[u8],
+    w: u32,
+    all: bool,
+    l: [ObjectId; WAIT_LIST],
+    n: u32,
+) -> IndexOption
     requires { ⌜ length (now block) ≡ 16384 ⌝ }
     ensures { λ r. ⌜ r ≡ satisfiedAt (decBlock (now (block .entry)) .threads) (decBlock (now (block .entry)) .objects) w all (take n (ids l)) ⌝ }
 {

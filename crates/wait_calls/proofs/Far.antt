@@ -1,9 +1,9 @@
--- Counts that are not near the end of their type fit after eight waits have taken of them. Assumes nothing.
+-- Counts that are not near the end of their type fit after a wait has taken of them at each place of its list. Assumes nothing.
 use mathlib.Core.Path.{_≡_, refl, sym, ap, subst, _∙_}
 use mathlib.Core.Bool.{Bool, true, false, not}
 use mathlib.Core.List.{List, [], _∷_}
 use mathlib.Core.Logic.{_⊎_, inl, inr}
-use Prim.Native.Nat.{ℕ, zero, suc, _+_, _≤_, _<_}
+use Prim.Native.Nat.{ℕ, zero, suc, _+_, _-_, _≤_, _<_}
 use native.Mathlib.Omega.{arith}
 use lib.ListN.{length, getD}
 use borrow.Author.Tests.{ne-eqb, lt-ltb, leb-false}
@@ -14,6 +14,7 @@ use Rattle.types.specs.declared.object.KObject.the-variants.{Free, Thread, Even
 use Rattle.types.specs.declared.sync.Semaphore as se
 use Rattle.types.specs.declared.object.Slot.{Slot}
 use Rattle.types.specs.declared.object.ObjectStore.{ObjectStore}
+use Rattle.types.specs.Thread.{waitList}
 use Rattle.sound.specs.View.{slotAt, objectAt}
 use Rattle.sound.specs.Objects.{refOf, ofNone}
 use Rattle.object.specs.Slots.{withObject, content}
@@ -33,11 +34,11 @@ Far n (AddressArbiter a) = Unit {0}
 Far n Process = Unit {0}
 Far n ResourceLimit = Unit {0}
 
-near-far : (x : KObject) → near x ≡ false → Far 8 x
+near-far : (x : KObject) → near x ≡ false → Far waitList x
 near-far (Free m) e = tt
 near-far (Thread u) e = tt
 near-far (Event v) e = tt
-near-far (Mutex m) e = omega (arith, leb-false 4294967288 (m .«lock_count») e)
+near-far (Mutex m) e = omega (arith, leb-false (4294967296 - waitList) (m .«lock_count») e)
 near-far (Semaphore s) e = inl (omega (arith, leb-false 2147483648 (s .count) e), omega arith)
 near-far (Timer t) e = tt
 near-far (AddressArbiter a) e = tt
@@ -92,7 +93,7 @@ far-taken n ResourceLimit w f = tt
 
 -- ---- objects without a count
 pub near-fits : (x : KObject) → near x ≡ false → acquireOver x ≡ false
-near-fits x e = far-fits 7 x (near-far x e)
+near-fits x e = far-fits (waitList - 1) x (near-far x e)
 
 -- what names a thread or the process
 pub near-kept : (x : KObject) → (refOf x ≡ ofNone → ⊥) → near x ≡ false
@@ -132,10 +133,10 @@ acquires-fit (o ∷ os) (suc n) s w h a =
     ∙ over-same s o w n (a .0)
 
 -- what a wait on objects with such counts takes
-pub taken-fits : (all : Bool) (os : List ℕ) (i : ℕ) (s : ObjectStore) (w : ℕ) → length os ≤ 8 → All (λ o. near (objectAt s o) ≡ false) os
+pub taken-fits : (all : Bool) (os : List ℕ) (i : ℕ) (s : ObjectStore) (w : ℕ) → length os ≤ waitList → All (λ o. near (objectAt s o) ≡ false) os
     → pick all (acquires s os w) (acquire s (getD os i 0) w) .overflow ≡ s .overflow
-taken-fits true os i s w h a = acquires-fit os 8 s w h (all-as (λ o. near (objectAt s o) ≡ false) (λ o. Far 8 (objectAt s o)) (λ o e. near-far (objectAt s o) e) os a)
-taken-fits false os i s w h a = over-same s (getD os i 0) w 7 (near-far (objectAt s (getD os i 0)) (all-get (λ o. near (objectAt s o) ≡ false) os i 0 (near-none s 0 refl) a))
+taken-fits true os i s w h a = acquires-fit os waitList s w h (all-as (λ o. near (objectAt s o) ≡ false) (λ o. Far waitList (objectAt s o)) (λ o e. near-far (objectAt s o) e) os a)
+taken-fits false os i s w h a = over-same s (getD os i 0) w (waitList - 1) (near-far (objectAt s (getD os i 0)) (all-get (λ o. near (objectAt s o) ≡ false) os i 0 (near-none s 0 refl) a))
 
 -- where no copy is needed
 pub finds-none : (s : ObjectStore) (os : List ℕ) (all fires known : Bool) → mayFind s os all fires known ≡ false

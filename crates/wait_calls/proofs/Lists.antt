@@ -17,7 +17,7 @@ use Rattle.types.specs.declared.thread.ThreadOption.the-variants.{NoThread, Som
 use Rattle.types.specs.declared.thread.WaitSyscall.the-variants.{WaitSynchronizationN}
 use Rattle.types.specs.declared.object.ObjectStore.{ObjectStore}
 use Rattle.types.specs.declared.kernel.Kernel.{Kernel}
-use Rattle.types.specs.Thread.{threadFlag, threadValue}
+use Rattle.types.specs.Thread.{waitList, threadFlag, threadValue}
 use Rattle.block.specs.Block.{decBlock}
 use Rattle.sound.specs.View.{objectAt}
 use Rattle.kernel.specs.NextEvent.{contains}
@@ -64,33 +64,33 @@ for-all (inl e) = false-true (sym e)
 for-all (inr p) = p
 
 -- ---- the call from the opened handles on
-take-is : (f : IndexOption) (k : Kernel) (c : ℕ) (os : List ℕ) (all : Bool) (nanos tick : ℕ) → length os ≤ 8
-    → takeIn f k c (padded 8 os) (length os) all nanos tick ≡ takeAt f k c os all nanos tick
+take-is : (f : IndexOption) (k : Kernel) (c : ℕ) (os : List ℕ) (all : Bool) (nanos tick : ℕ) → length os ≤ waitList
+    → takeIn f k c (padded waitList os) (length os) all nanos tick ≡ takeAt f k c os all nanos tick
 take-is NoIndex k c os all nanos tick h = refl
-take-is (SomeIndex i) k c os all nanos tick h = rw (padded-first 8 os h)
+take-is (SomeIndex i) k c os all nanos tick h = rw (padded-first waitList os h)
 
-wait-is : (t : ThreadOption) (k : Kernel) (os : List ℕ) (all : Bool) (nanos tick : ℕ) → length os ≤ 8 → waitAsIn t k (padded 8 os) (length os) all nanos tick ≡ waitNAs t k os all nanos tick
+wait-is : (t : ThreadOption) (k : Kernel) (os : List ℕ) (all : Bool) (nanos tick : ℕ) → length os ≤ waitList → waitAsIn t k (padded waitList os) (length os) all nanos tick ≡ waitNAs t k os all nanos tick
 wait-is NoThread k os all nanos tick h = refl
 wait-is (SomeThread c) k os all nanos tick h =
-    ap (λ (l : List ℕ). takeIn (satisfiedAt (k .threads) (k .objects) c all l) k c (padded 8 os) (length os) all nanos tick) (padded-first 8 os h)
+    ap (λ (l : List ℕ). takeIn (satisfiedAt (k .threads) (k .objects) c all l) k c (padded waitList os) (length os) all nanos tick) (padded-first waitList os h)
     ∙ take-is (satisfiedAt (k .threads) (k .objects) c all os) k c os all nanos tick h
 
--- the first n of eight
-pub size-first : (l : List ℕ) (n : ℕ) → length l ≡ 8 → length (take n l) ≡ least n 8
-size-first l n e = go (ltb n 8) refl
+-- the first n of a list
+pub size-first : (l : List ℕ) (n : ℕ) → length l ≡ waitList → length (take n l) ≡ least n waitList
+size-first l n e = go (ltb n waitList) refl
   where
-    go : (b : Bool) → ltb n 8 ≡ b → length (take n l) ≡ pick b n 8
-    go true h = length-take-le n l (omega (arith, ltb-true n 8 h))
-    go false h = ap length (take-all n l (omega (arith, ltb-false n 8 h))) ∙ e
+    go : (b : Bool) → ltb n waitList ≡ b → length (take n l) ≡ pick b n waitList
+    go true h = length-take-le n l (omega (arith, ltb-true n waitList h))
+    go false h = ap length (take-all n l (omega (arith, ltb-false n waitList h))) ∙ e
 
-pub least-fits : (n : ℕ) → least n 8 ≤ 8
-least-fits n = go (ltb n 8) refl
+pub least-fits : (n : ℕ) → least n waitList ≤ waitList
+least-fits n = go (ltb n waitList) refl
   where
-    go : (b : Bool) → ltb n 8 ≡ b → pick b n 8 ≤ 8
-    go true h = omega (arith, ltb-true n 8 h)
+    go : (b : Bool) → ltb n waitList ≡ b → pick b n waitList ≤ waitList
+    go true h = omega (arith, ltb-true n waitList h)
     go false h = omega arith
 
-module _ (k : Kernel) (r : Registers) (words : List ℕ) (n tick : ℕ) (z : length words ≡ 8) where
+module _ (k : Kernel) (r : Registers) (words : List ℕ) (n tick : ℕ) (z : length words ≡ waitList) where
   abbrev hs : List ℕ
   hs = take n words
 
@@ -103,18 +103,18 @@ module _ (k : Kernel) (r : Registers) (words : List ℕ) (n tick : ℕ) (z : len
   abbrev q : Kernel
   q = withObjects caught (storeOf caught hs)
 
-  pub size-is : length os ≡ least n 8
+  pub size-is : length os ≡ least n waitList
   size-is = all-length (caught .«current_thread») (caught .handles) hs (caught .objects) ∙ size-first words n z
 
   -- the handles name l, unless one is unknown
-  pub wait-in : (l : List ObjectId) (known : Bool) → known ≡ not (contains os 0) → (known ≡ true → l ≡ padded 8 os) → waitIn q l known (least n 8) r tick ≡ waitSynchronizationN k r hs tick
+  pub wait-in : (l : List ObjectId) (known : Bool) → known ≡ not (contains os 0) → (known ≡ true → l ≡ padded waitList os) → waitIn q l known (least n waitList) r tick ≡ waitSynchronizationN k r hs tick
   unfolding waitSynchronizationN
   wait-in l known e f = go (contains os 0) refl
     where
       all : Bool
       all = not (eqb (r .r3) 0)
 
-      go : (t : Bool) → contains os 0 ≡ t → waitIn q l known (least n 8) r tick ≡ pick (contains os 0) (answers 16 q) (waitNAs (caught .«current_thread») q os all (pair (r .r0) (r .r4)) tick)
+      go : (t : Bool) → contains os 0 ≡ t → waitIn q l known (least n waitList) r tick ≡ pick (contains os 0) (answers 16 q) (waitNAs (caught .«current_thread») q os all (pair (r .r0) (r .r4)) tick)
       go true p = let d : known ≡ false = e ∙ ap not p in rw (d, p)
       go false p =
           let d : known ≡ true = e ∙ ap not p in
@@ -165,7 +165,7 @@ module _ (b : List ℕ) (s : ObjectStore) (os : List ℕ) (all : Bool) (nanos ti
   at-found : (x : IndexOption) (c : ℕ) → decBlock b .«current_thread» ≡ SomeThread c → finding (takeAt x j c os all nanos tick .kernel) ≡ found (overAt x c)
   at-found NoIndex c e =
       pick-finding (eqb nanos 0) (found (s .overflow)) (answers 17 j) (waitOn j c os all nanos tick WaitSynchronizationN) (parts-finding b (decBlock b .threads) s)
-      (begun-finding b s c (padded 8 os) (length os) all nanos tick WaitSynchronizationN e)
+      (begun-finding b s c (padded waitList os) (length os) all nanos tick WaitSynchronizationN e)
   at-found (SomeIndex i) c e =
       parts-finding b (decBlock b .threads) (pick all (acquires s os c) (acquire s (getD os i 0) c)) ∙ ap (λ (f : Bool). foundOf f (overAt (SomeIndex i) c or outOfHandles? (decBlock b))) (taken-full c i all)
 
@@ -187,7 +187,7 @@ module _ (b : List ℕ) (s : ObjectStore) (os : List ℕ) (all : Bool) (nanos ti
   as-sticks (SomeThread c) e = at-sticks (satisfiedAt (decBlock b .threads) s c all os) c e
 
   -- with counts that are not near the end of their type each fits
-  module _ (few : length os ≤ 8) (far : All (λ o. near (objectAt s o) ≡ false) os) where
+  module _ (few : length os ≤ waitList) (far : All (λ o. near (objectAt s o) ≡ false) os) where
     at-fits : (x : IndexOption) (c : ℕ) → overAt x c ≡ s .overflow
     at-fits NoIndex c = refl
     at-fits (SomeIndex i) c = taken-fits all os i s c few far

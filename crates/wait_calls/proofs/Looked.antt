@@ -11,6 +11,7 @@ use lib.Seq.{take-suc, take-all, length-take-le, getD-take}
 use Rattle.laws.specs.Logic.{_or_, or-end}
 use Rattle.units.specs.declared.ObjectId.{ObjectId}
 use Rattle.types.specs.declared.kernel.Kernel.{Kernel}
+use Rattle.types.specs.Thread.{waitList}
 use Rattle.kernel.specs.NextEvent.{contains}
 use Rattle.pass.specs.Asks.{padded, openObject}
 use Rattle.pass.specs.Padded.{padded-more}
@@ -30,26 +31,26 @@ module _ (k : Kernel) (words : List ℕ) (n : ℕ) where
 
   -- after i handles
   abbrev pub Looking : List ObjectId → Bool → ℕ → Type 0
-  Looking l unknown i = (l ≡ padded 8 (take i found)) × (unknown ≡ contains (take i found) 0)
+  Looking l unknown i = (l ≡ padded waitList (take i found)) × (unknown ≡ contains (take i found) 0)
 
   size : length found ≡ length (take n words)
   size = length-map (take n words) (openObject k)
 
-  pub looked-all : (l : List ObjectId) (unknown : Bool) (i : ℕ) → Looking l unknown i → length (take n words) ≤ i → (l ≡ padded 8 found) × (not unknown ≡ not (contains found 0))
+  pub looked-all : (l : List ObjectId) (unknown : Bool) (i : ℕ) → Looking l unknown i → length (take n words) ≤ i → (l ≡ padded waitList found) × (not unknown ≡ not (contains found 0))
   looked-all l unknown i v h =
       let e : take i found ≡ found = take-all i found (omega (arith, size)) in
-      (v .0 ∙ ap (padded 8) e, ap not (v .1 ∙ ap (λ (x : List ℕ). contains x 0) e))
+      (v .0 ∙ ap (padded waitList) e, ap not (v .1 ∙ ap (λ (x : List ℕ). contains x 0) e))
 
-  pub looked-more : length words ≡ 8 → (l : List ObjectId) (unknown : Bool) (i : ℕ) → Looking l unknown i → i < n → i < 8 → (o : ObjectId) → o .0 ≡ openObject k (getD words i 0) → Looking (set l i o) (unknown or eqb (o .0) 0) (i + 1)
+  pub looked-more : length words ≡ waitList → (l : List ObjectId) (unknown : Bool) (i : ℕ) → Looking l unknown i → i < n → i < waitList → (o : ObjectId) → o .0 ≡ openObject k (getD words i 0) → Looking (set l i o) (unknown or eqb (o .0) 0) (i + 1)
   looked-more z l unknown i v h m o e =
       let j : i < length (take n words) = simp length-take (omega arith) in
       let b : i < length found = omega (arith, size) in
       let d : getD found i (openObject k 0) ≡ o .0 = List·getD-map (openObject k) (take n words) i 0 ∙ ap (openObject k) (getD-take n words i 0 h) ∙ sym e in
       let q : take (i + 1) found ≡ take i found ++ (o .0 ∷ []) = rw add-one (take-suc found i (openObject k 0) b ∙ ap (λ (x : ℕ). take i found ++ (x ∷ [])) d) in
       let r : length (take i found) ≡ i = length-take-le i found (omega arith) in
-      let w : set (padded 8 (take i found)) (length (take i found)) (record { 0 = o .0 }) ≡ padded 8 (take i found ++ (o .0 ∷ [])) = padded-more 8 (take i found) (o .0) (omega arith) in
+      let w : set (padded waitList (take i found)) (length (take i found)) (record { 0 = o .0 }) ≡ padded waitList (take i found ++ (o .0 ∷ [])) = padded-more waitList (take i found) (o .0) (omega arith) in
       (rw (v .0, q) (rw r at w), ap (λ (t : Bool). t or eqb (o .0) 0) (v .1) ∙ sym (ap (λ (x : List ℕ). contains x 0) q ∙ contains-more (take i found) (o .0) 0))
 
-pub looked-none : (k : Kernel) (words : List ℕ) (n : ℕ) → Looking k words n (replicate 8 (record { 0 = 0 })) false 0
+pub looked-none : (k : Kernel) (words : List ℕ) (n : ℕ) → Looking k words n (replicate waitList (record { 0 = 0 })) false 0
 unfolding padded contains
 looked-none k words n = (refl, refl)

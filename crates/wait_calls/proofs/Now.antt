@@ -17,7 +17,7 @@ use Rattle.types.specs.declared.object.KObject.{KObject}
 use Rattle.types.specs.declared.object.KObject.the-variants.{Free, Thread, Timer, Process}
 use Rattle.types.specs.declared.object.ObjectStore.{ObjectStore}
 use Rattle.types.specs.declared.kernel.Kernel.{Kernel}
-use Rattle.types.specs.Thread.{threadFlag, threadValue}
+use Rattle.types.specs.Thread.{waitList, threadFlag, threadValue}
 use Rattle.block.specs.Block.{decBlock}
 use Rattle.sound.specs.View.{objectAt}
 use Rattle.sound.specs.Objects.{KeptOk}
@@ -92,7 +92,7 @@ module _ (b : List ℕ) (s : ObjectStore) where
   as-found (SomeThread c) e o nanos tick =
       taken-if (isSignaled (decBlock b .threads) (objectAt s o) c) o c (waitUnless q c (o ∷ []) false nanos tick WaitSynchronization1)
       (pick-finding (eqb nanos 0) (found false) (answers 17 q) (waitOn q c (o ∷ []) false nanos tick WaitSynchronization1) same-found
-      (begun-finding b s c (padded 8 (o ∷ [])) 1 false nanos tick WaitSynchronization1 e ∙ sym found-none))
+      (begun-finding b s c (padded waitList (o ∷ [])) 1 false nanos tick WaitSynchronization1 e ∙ sym found-none))
 
   pub wait1-finding : (o : ℕ) (r : Registers) (tick : ℕ) → finding (wait1Opened q o r tick .kernel) ≡ found (overNow (decBlock b .«current_thread») (decBlock b .threads) (objectAt s o))
   wait1-finding o r tick = go (eqb o 0) refl

@@ -16,6 +16,7 @@ use Rattle.types.specs.declared.thread.ThreadOption.{ThreadOption}
 use Rattle.types.specs.declared.object.HandleTable.{HandleTable}
 use Rattle.types.specs.declared.object.ObjectStore.{ObjectStore}
 use Rattle.types.specs.declared.kernel.Kernel.{Kernel}
+use Rattle.types.specs.Thread.{waitList}
 use Rattle.block.specs.Block.{decBlock}
 use Rattle.sound.specs.Question.{sound?}
 use Rattle.kernel.specs.NextEvent.{contains}
@@ -51,14 +52,14 @@ Resolving c t s hs l q i =
     (resolveStore c t q (drop i hs) ≡ resolveStore c t s hs)
     × ((resolveAll c t q (drop i hs) ≡ drop i (resolveAll c t s hs))
     × ((contains (drop i (resolveAll c t s hs)) 0 ≡ contains (resolveAll c t s hs) 0)
-    × (l ≡ padded 8 (take i (resolveAll c t s hs)))))
+    × (l ≡ padded waitList (take i (resolveAll c t s hs)))))
 
 -- after the last, or the first that is unknown
 abbrev Resolved-to : ThreadOption → HandleTable → ObjectStore → List ℕ → List ObjectId → ObjectStore → Bool → Type 0
 Resolved-to c t s hs l q known =
     (q ≡ resolveStore c t s hs)
     × ((known ≡ not (contains (resolveAll c t s hs) 0))
-    × (known ≡ true → l ≡ padded 8 (resolveAll c t s hs)))
+    × (known ≡ true → l ≡ padded waitList (resolveAll c t s hs)))
 
 module _ (c : ThreadOption) (t : HandleTable) (s : ObjectStore) (hs : List ℕ) (l : List ObjectId) (q : ObjectStore) (i : ℕ) (v : Resolving c t s hs l q i) where
   resolved-all : drop i hs ≡ [] → Resolved-to c t s hs l q true
@@ -85,7 +86,7 @@ module _ (c : ThreadOption) (t : HandleTable) (s : ObjectStore) (hs : List ℕ) 
         let m : true ≡ contains (resolveAll c t s hs) 0 = sym d ∙ ap (λ x. contains x 0) all-next ∙ v .1 .1 .0 in
         (a, (ap not m, λ y. false-true y))
 
-    resolved-more : o .0 ≢ 0 → i < 8 → Resolving c t s hs (set l i o) p (i + 1)
+    resolved-more : o .0 ≢ 0 → i < waitList → Resolving c t s hs (set l i o) p (i + 1)
     unfolding resolveStore contains _or_
     resolved-more n b =
         let R = resolveAll c t s hs in
@@ -95,7 +96,7 @@ module _ (c : ThreadOption) (t : HandleTable) (s : ObjectStore) (hs : List ℕ) 
         let d : contains (resolveAll c t p (drop (i + 1) hs)) 0 ≡ contains R 0 =
         sym (or-no (eqb (o .0) 0) _ (ne-eqb (o .0) 0 n)) ∙ ap (λ x. contains x 0) all-next ∙ v .1 .1 .0 in
         let m : length (take i R) ≡ i = length-take-le i R (omega (arith, u .0)) in
-        let w : set (padded 8 (take i R)) (length (take i R)) (record { 0 = o .0 }) ≡ padded 8 (take i R ++ (o .0 ∷ [])) = padded-more 8 (take i R) (o .0) (omega arith) in
+        let w : set (padded waitList (take i R)) (length (take i R)) (record { 0 = o .0 }) ≡ padded waitList (take i R ++ (o .0 ∷ [])) = padded-more waitList (take i R) (o .0) (omega arith) in
         (a, (sym (u .1 .0), (rw (u .1 .0) d, rw (v .1 .1 .1, u .1 .1) (rw m at w))))
 
 -- ---- in the block: from the state k on, b is the block after i handles
@@ -151,13 +152,13 @@ module _ (k : Kernel) (hs : List ℕ) where
           let v = resolved-unknown (k .«current_thread») (k .handles) (k .objects) hs l q i (g .rest) h d (decBlock e .objects) (a .object) same-store same-object z in
           record { sound = s; state = opened ∙ ap (withObjects k) (sym same-store ∙ v .0); known = v .1 .0; objects = v .1 .1 }
 
-      pub open-more : a .object .0 ≢ 0 → i < 8 → Opening e (set l i (a .object)) (i + 1)
+      pub open-more : a .object .0 ≢ 0 → i < waitList → Opening e (set l i (a .object)) (i + 1)
       open-more z m = record {
         sound = s;
         state = opened ∙ ap (withObjects k) (sym same-store);
         rest = resolved-more (k .«current_thread») (k .handles) (k .objects) hs l q i (g .rest) h d (decBlock e .objects) (a .object) same-store same-object z m;
       }
 
-pub open-none : (b : List ℕ) → sound? b ≡ true → (hs : List ℕ) → Opening (decBlock b) hs b (replicate 8 (record { 0 = 0 })) 0
+pub open-none : (b : List ℕ) → sound? b ≡ true → (hs : List ℕ) → Opening (decBlock b) hs b (replicate waitList (record { 0 = 0 })) 0
 unfolding padded
 open-none b s hs = record { sound = s; state = refl; rest = (refl, (refl, (refl, refl))) }

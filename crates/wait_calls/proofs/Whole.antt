@@ -17,6 +17,7 @@ use Rattle.types.specs.declared.object.HandleTable.{HandleTable}
 use Rattle.types.specs.declared.object.ObjectStore.{ObjectStore}
 use Rattle.types.specs.declared.kernel.Kernel.{Kernel}
 use Rattle.types.specs.Object.{nextOf}
+use Rattle.types.specs.Thread.{waitList}
 use Rattle.block.specs.Block.{encBlock, decBlock}
 use Rattle.sound.specs.View.{ids, objectAt}
 use Rattle.sound.specs.Question.{sound?, t-block}
@@ -96,7 +97,7 @@ pub copied : (x a b : List ℕ) → x ≡ bytes.over a 0 b → length b ≡ leng
 copied x a b e h = e ∙ over-all a b h
 
 -- ---- on the block b
-module _ (b : List ℕ) (sd : sound? b ≡ true) (r : Registers) (words : List ℕ) (n tick : ℕ) (z : length words ≡ 8) where
+module _ (b : List ℕ) (sd : sound? b ≡ true) (r : Registers) (words : List ℕ) (n tick : ℕ) (z : length words ≡ waitList) where
   abbrev k : Kernel
   k = decBlock b
 
@@ -164,10 +165,10 @@ module _ (b : List ℕ) (sd : sound? b ≡ true) (r : Registers) (words : List �
   call-refused m = call-found ∙ found-more (s .full) (s .overflow) (pick (contains os 0) (s .overflow) over) (outOfHandles? k) (sticks (contains os 0)) (λ w. m (sym same-before ∙ w)) ∙ same-before
 
   -- the objects of the handles as they were looked up
-  pub looked-is : (l : List ObjectId) → l ≡ padded 8 (map (openObject k) hs) → take (least n 8) (ids l) ≡ map (openObject k) hs
+  pub looked-is : (l : List ObjectId) → l ≡ padded waitList (map (openObject k) hs) → take (least n waitList) (ids l) ≡ map (openObject k) hs
   looked-is l e =
-      let m : length (map (openObject k) hs) ≡ least n 8 = length-map hs (openObject k) ∙ size-first words n z in
-      (λ i. take (sym m i) (ids (e i))) ∙ padded-first 8 (map (openObject k) hs) (rw m (least-fits n))
+      let m : length (map (openObject k) hs) ≡ least n waitList = length-map hs (openObject k) ∙ size-first words n z in
+      (λ i. take (sym m i) (ids (e i))) ∙ padded-first waitList (map (openObject k) hs) (rw m (least-fits n))
 
   module _ (none : before ≡ 0) where
     down : (s .full ≡ false) × ((caught .objects .overflow ≡ false) × (outOfHandles? k ≡ false))
@@ -183,7 +184,7 @@ module _ (b : List ℕ) (sd : sound? b ≡ true) (r : Registers) (words : List �
     pub call-none : anyNear (k .objects) (map (openObject k) hs) ≡ false → finding (call .kernel) ≡ 0
     call-none e = call-found ∙ ap (λ (v : Bool). foundOf (s .full) (v or outOfHandles? k)) (fits e (contains os 0) refl) ∙ same-before ∙ none
 
-    pub ready : (l : List ObjectId) (known fires : Bool) → l ≡ padded 8 (map (openObject k) hs) → known ≡ not (contains (map (openObject k) hs) 0) → fires ≡ timerDue tick (k .objects .slots) → Ready k words n l known fires tick
+    pub ready : (l : List ObjectId) (known fires : Bool) → l ≡ padded waitList (map (openObject k) hs) → known ≡ not (contains (map (openObject k) hs) 0) → fires ≡ timerDue tick (k .objects .slots) → Ready k words n l known fires tick
     ready l known fires e f g = record { size = z; objects = e; looked = f; due = g; fits = down .1 .0; handles = down .1 .1; room = down .0 }
 
 -- ---- from there on
@@ -197,19 +198,19 @@ module _ (b : List ℕ) (sd : sound? b ≡ true) (r : Registers) (words : List �
     room-caught = ap (λ (y : Kernel). storeOf y (take n words) .full) d ∙ g .room
 
     -- every handle is known
-    pub known-is : known ≡ true → waitIn (decBlock m) l true (least n 8) r tick ≡ waitSynchronizationN (decBlock b) r (take n words) tick
+    pub known-is : known ≡ true → waitIn (decBlock m) l true (least n waitList) r tick ≡ waitSynchronizationN (decBlock b) r (take n words) tick
     known-is e =
         let f : contains (map (openObject (decBlock b)) (take n words)) 0 ≡ false = not-true _ (sym (g .looked) ∙ e) in
         let p = plain-all (decBlock b) (c .objects) (take n words) f in
         let t : true ≡ not (contains (objectsOf c (take n words)) 0) = sym (ap not (ap (λ (x : List ℕ). contains x 0) (p .0) ∙ f)) in
-        ap (λ (y : Kernel). waitIn y l true (least n 8) r tick) (d ∙ ap (withObjects c) (sym (p .1)))
-        ∙ wait-in (decBlock b) r words n tick (g .size) l true t (λ _. g .objects ∙ ap (padded 8) (sym (p .0)))
+        ap (λ (y : Kernel). waitIn y l true (least n waitList) r tick) (d ∙ ap (withObjects c) (sym (p .1)))
+        ∙ wait-in (decBlock b) r words n tick (g .size) l true t (λ _. g .objects ∙ ap (padded waitList) (sym (p .0)))
 
     -- they are opened in the block e
-    pub opened-is : (e : List ℕ) (x : Opened) → Opens (decBlock m) (take n words) e x → waitIn (decBlock e) (x .objects) (x .known) (least n 8) r tick ≡ waitSynchronizationN (decBlock b) r (take n words) tick
+    pub opened-is : (e : List ℕ) (x : Opened) → Opens (decBlock m) (take n words) e x → waitIn (decBlock e) (x .objects) (x .known) (least n waitList) r tick ≡ waitSynchronizationN (decBlock b) r (take n words) tick
     opened-is e x o =
         let w : Opens c (take n words) e x = subst (λ (y : Kernel). Opens y (take n words) e x) d o in
-        ap (λ (y : Kernel). waitIn y (x .objects) (x .known) (least n 8) r tick) (w .state) ∙ wait-in (decBlock b) r words n tick (g .size) (x .objects) (x .known) (w .known) (w .objects)
+        ap (λ (y : Kernel). waitIn y (x .objects) (x .known) (least n waitList) r tick) (w .state) ∙ wait-in (decBlock b) r words n tick (g .size) (x .objects) (x .known) (w .known) (w .objects)
 
     -- no timer came due
     pub same-block : sound? m ≡ true → fires ≡ false → m ≡ b

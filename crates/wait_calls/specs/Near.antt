@@ -1,12 +1,13 @@
--- Whether counts are near the end of their type: they may not fit after eight waits have taken of them. Assumes nothing.
+-- Whether counts are near the end of their type: they may not fit after a wait has taken of them at each place of its list. Assumes nothing.
 use mathlib.Core.Bool.{Bool, false, not}
 use mathlib.Core.List.{List, [], _∷_}
-use Prim.Native.Nat.{ℕ}
+use Prim.Native.Nat.{ℕ, _-_}
 use lib.Dec.{leb}
 use Rattle.laws.specs.Logic.{_and_, _or_}
 use Rattle.types.specs.declared.object.KObject.{KObject}
 use Rattle.types.specs.declared.object.KObject.the-variants.{Free, Thread, Event, Mutex, Semaphore, Timer, AddressArbiter, Process, ResourceLimit}
 use Rattle.types.specs.declared.object.ObjectStore.{ObjectStore}
+use Rattle.types.specs.Thread.{waitList}
 use Rattle.sound.specs.View.{objectAt}
 
 -- a semaphore's is, once it is below 0
@@ -14,7 +15,7 @@ abbrev pub near : KObject → Bool
 near (Free n) = false
 near (Thread u) = false
 near (Event e) = false
-near (Mutex m) = leb 4294967288 (m .«lock_count»)
+near (Mutex m) = leb (4294967296 - waitList) (m .«lock_count»)
 near (Semaphore s) = leb 2147483648 (s .count)
 near (Timer t) = false
 near (AddressArbiter a) = false

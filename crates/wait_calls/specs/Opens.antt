@@ -7,6 +7,7 @@ use lib.ListN.{length, take}
 use Rattle.units.specs.declared.ObjectId.{ObjectId}
 use Rattle.types.specs.declared.object.ObjectStore.{ObjectStore}
 use Rattle.types.specs.declared.kernel.Kernel.{Kernel}
+use Rattle.types.specs.Thread.{waitList}
 use Rattle.block.specs.Block.{decBlock}
 use Rattle.sound.specs.Question.{sound?}
 use Rattle.kernel.specs.NextEvent.{contains}
@@ -29,12 +30,12 @@ pub record Opens (k : Kernel) (hs : List ℕ) (e : List ℕ) (o : Opened) : Type
   pub sound : sound? e ≡ true
   pub state : decBlock e ≡ withObjects k (storeOf k hs)
   pub known : o .known ≡ not (contains (objectsOf k hs) 0)
-  pub objects : o .known ≡ true → o .objects ≡ padded 8 (objectsOf k hs)
+  pub objects : o .known ≡ true → o .objects ≡ padded waitList (objectsOf k hs)
 
 -- what is known of the first n words before the first write: nothing is found until the wait takes objects
 pub record Ready (k : Kernel) (words : List ℕ) (n : ℕ) (l : List ObjectId) (known fires : Bool) (tick : ℕ) : Type 0 where
-  pub size : length words ≡ 8
-  pub objects : l ≡ padded 8 (map (openObject k) (take n words))
+  pub size : length words ≡ waitList
+  pub objects : l ≡ padded waitList (map (openObject k) (take n words))
   pub looked : known ≡ not (contains (map (openObject k) (take n words)) 0)
   pub due : fires ≡ timerDue tick (k .objects .slots)
   pub fits : caughtUp k tick .objects .overflow ≡ false

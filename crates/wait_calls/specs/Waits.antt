@@ -1,4 +1,4 @@
--- A wait's list as it is kept: the objects in eight places, and a count.
+-- A wait's list as it is kept: the objects in the places of the list, and a count.
 use mathlib.Core.Bool.{Bool, not}
 use mathlib.Core.List.{List}
 use Prim.Native.Nat.{ℕ}

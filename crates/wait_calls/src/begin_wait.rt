@@ -5,6 +5,7 @@ use rows::write;
 use types::thread::Thread;
 use types::thread::ThreadOption;
 use types::thread::TickOption;
+use types::thread::WAIT_LIST;
 use types::thread::WaitSyscall;
 use units::Nanos;
 use units::ObjectId;
@@ -40,13 +41,13 @@ fn with_call(t: Thread, call: WaitSyscall) -> Thread
 }
 
 // One holder more for each of the first n. An object may be listed twice, so each slot is read after the last write.
-fn hold_list(block: &mut [u8], l: [ObjectId; 8], n: u32)
+fn hold_list(block: &mut [u8], l: [ObjectId; WAIT_LIST], n: u32)
     requires { ⌜ length (now block) ≡ 16384 ⌝ }
     requires { ⌜ sound? (now block) ≡ true ⌝ }
     ensures { λ _. ⌜ Holds (now (block .exit)) (withObjects (decBlock (now (block .entry))) (addRefs (decBlock (now (block .entry)) .objects) (take n (ids l)))) ⌝ }
 {
     let mut i: usize = 0;
-    while i < 8 {
+    while i < WAIT_LIST {
         if n <= i as u32 {
             return;
         }
@@ -62,7 +63,7 @@ fn hold_list(block: &mut [u8], l: [ObjectId; 8], n: u32)
 pub fn begin_wait(
     block: &mut [u8],
     c: u32,
-    l: [ObjectId; 8],
+    l: [ObjectId; WAIT_LIST],
     n: u32,
     all: bool,
     nanos: Nanos,

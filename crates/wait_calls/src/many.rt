@@ -11,6 +11,8 @@ use svc::Registers;
 use thread::places;
 use timer_calls::caught;
 use types::thread::ThreadOption;
+use types::thread::WAIT_COUNT;
+use types::thread::WAIT_LIST;
 use types::thread::WaitSyscall;
 use units::Nanos;
 use units::ObjectId;
@@ -34,13 +36,13 @@ ghost use Rattle.wait_calls.specs.Opens.{Ready};
 ghost use Rattle.wait_calls.specs.Room.{lacksRoom};
 
 // The object at a place of the first n; none past them.
-fn object_at(l: [ObjectId; 8], n: u32, i: u32) -> ObjectId
+fn object_at(l: [ObjectId; WAIT_LIST], n: u32, i: u32) -> ObjectId
     ensures { λ r. ⌜ r .0 ≡ getD (take n (ids l)) i 0 ⌝ }
 {
     if n <= i {
         return ObjectId(0);
     }
-    if 8 <= i {
+    if WAIT_COUNT <= i {
         return ObjectId(0);
     }
     l[i as usize]
@@ -48,7 +50,7 @@ fn object_at(l: [ObjectId; 8], n: u32, i: u32) -> ObjectId
 
 // Every object is taken, one after the other. With a finding those before are taken already, and the block is left open:
 // `wait_saved` puts back a copy.
-fn take_all(block: &mut [u8], c: u32, l: [ObjectId; 8], n: u32, i: u32) -> Outcome
+fn take_all(block: &mut [u8], c: u32, l: [ObjectId; WAIT_LIST], n: u32, i: u32) -> Outcome
     requires { ⌜ length (now block) ≡ 16384 ⌝ }
     requires { ⌜ sound? (now block) ≡ true ⌝ }
     requires { ⌜ outOfHandles? (decBlock (now block)) ≡ false ⌝ }
@@ -65,7 +67,7 @@ fn take_all(block: &mut [u8], c: u32, l: [ObjectId; 8], n: u32, i: u32) -> Outco
 
 // A wait for all takes every object, one for any the one at the index; r1 gets the index. Where one for all finds
 // something the block is left open, as by `take_all`.
-fn take_at(block: &mut [u8], c: u32, l: [ObjectId; 8], n: u32, all: bool, i: u32) -> Outcome
+fn take_at(block: &mut [u8], c: u32, l: [ObjectId; WAIT_LIST], n: u32, all: bool, i: u32) -> Outcome
     requires { ⌜ length (now block) ≡ 16384 ⌝ }
     requires { ⌜ sound? (now block) ≡ true ⌝ }
     requires { ⌜ outOfHandles? (decBlock (now block)) ≡ false ⌝ }
@@ -89,7 +91,7 @@ fn wait_at(
     block: &mut [u8],
     found: IndexOption,
     c: u32,
-    l: [ObjectId; 8],
+    l: [ObjectId; WAIT_LIST],
     n: u32,
     all: bool,
     nanos: Nanos,
@@ -128,7 +130,7 @@ fn wait_at(
 fn wait_list(
     block: &mut [u8],
     r: Registers,
-    l: [ObjectId; 8],
+    l: [ObjectId; WAIT_LIST],
     known: bool,
     n: u32,
     tick: Ticks,
@@ -159,9 +161,9 @@ fn wait_list(
 fn wait_caught(
     block: &mut [u8],
     r: Registers,
-    words: [u32; 8],
+    words: [u32; WAIT_LIST],
     n: u32,
-    l: [ObjectId; 8],
+    l: [ObjectId; WAIT_LIST],
     known: bool,
     fires: bool,
     tick: Ticks,
@@ -173,7 +175,7 @@ fn wait_caught(
     ensures { λ _. ⌜ ((((not (eqb (r .r3) 0) ≡ false) × ((fires ≡ false) × (known ≡ true))) ⊎ (finding (def.waitSynchronizationN (decBlock (now (block .entry))) r (take n words) (tick .0) .kernel) ≡ 0)) → now (block .exit) ≡ left (def.waitSynchronizationN (decBlock (now (block .entry))) r (take n words) (tick .0)) (now (block .entry))) ⌝ }
 {
     caught::catch_up_if(block, fires, tick);
-    let m = places::least_of(n, 8);
+    let m = places::least_of(n, WAIT_COUNT);
     if known {
         return wait_list(block, r, l, true, m, tick);
     }
@@ -186,9 +188,9 @@ fn wait_caught(
 fn wait_saved(
     block: &mut [u8],
     r: Registers,
-    words: [u32; 8],
+    words: [u32; WAIT_LIST],
     n: u32,
-    l: [ObjectId; 8],
+    l: [ObjectId; WAIT_LIST],
     known: bool,
     fires: bool,
     tick: Ticks,
@@ -209,7 +211,7 @@ fn wait_saved(
 }
 
 // Whether there is no slot for an object that the handles make; known handles make none.
-fn full_if(block: &[u8], words: [u32; 8], n: u32, known: bool) -> bool
+fn full_if(block: &[u8], words: [u32; WAIT_LIST], n: u32, known: bool) -> bool
     requires { ⌜ length (now block) ≡ 16384 ⌝ }
     ensures { λ r. ⌜ r ≡ pick known false (lacksRoom (decBlock (now (block .entry)) .«current_thread») (decBlock (now (block .entry)) .handles) (decBlock (now (block .entry)) .objects) (take n words)) ⌝ }
 {
@@ -219,12 +221,12 @@ fn full_if(block: &[u8], words: [u32; 8], n: u32, known: bool) -> bool
     room::lacks_room(block, words, n)
 }
 
-// r3 whether for all, r0 and r4 nanoseconds; the handles are the first n words, at most eight. What is found before the wait is looked
+// r3 whether for all, r0 and r4 nanoseconds; the handles are the first n words. What is found before the wait is looked
 // for before the first write, since a finding must leave the block as it was.
 pub fn wait_synchronization_n(
     block: &mut [u8],
     r: Registers,
-    words: [u32; 8],
+    words: [u32; WAIT_LIST],
     n: u32,
     tick: Ticks,
 ) -> Outcome
@@ -242,7 +244,14 @@ pub fn wait_synchronization_n(
     if found != 0 {
         return outcome::refused(found);
     }
-    if near::may_find(block, l, places::least_of(n, 8), r.r3 != 0, fires, known) {
+    if near::may_find(
+        block,
+        l,
+        places::least_of(n, WAIT_COUNT),
+        r.r3 != 0,
+        fires,
+        known,
+    ) {
         return wait_saved(block, r, words, n, l, known, fires, tick);
     }
     wait_caught(block, r, words, n, l, known, fires, tick)

@@ -3,6 +3,8 @@
 use object::handles;
 use rows::read;
 use types::object::KObject;
+use types::thread::WAIT_COUNT;
+use types::thread::WAIT_LIST;
 use units::ObjectId;
 ghost use mathlib.Core.Path.{_≡_};
 ghost use lib.ListN.{length, take};
@@ -10,7 +12,10 @@ ghost use Rattle.block.specs.Block.{decBlock};
 ghost use Rattle.sound.specs.View.{ids};
 ghost use Rattle.wait_calls.specs.Near as def;
 
-// Whether the count may not fit after eight waits have taken of it.
+// A lock count from here on, 2^32 - WAIT_COUNT, may not fit after a wait has taken the mutex at each place of its list.
+const NEAR: u32 = 4294967295 - WAIT_COUNT + 1;
+
+// Whether the count may not fit after a wait has taken of it at each place of its list.
 fn near(x: KObject) -> bool
     ensures { λ r. ⌜ r ≡ def.near x ⌝ }
 {
@@ -18,7 +23,7 @@ fn near(x: KObject) -> bool
         KObject::Free(_n) => false,
         KObject::Thread(_u) => false,
         KObject::Event(_e) => false,
-        KObject::Mutex(m) => 4294967288 <= m.lock_count,
+        KObject::Mutex(m) => NEAR <= m.lock_count,
         KObject::Semaphore(s) => 2147483648 <= s.count,
         KObject::Timer(_t) => false,
         KObject::AddressArbiter(_a) => false,
@@ -28,12 +33,12 @@ fn near(x: KObject) -> bool
 }
 
 // Of any of the first n.
-fn any_near(block: &[u8], l: [ObjectId; 8], n: u32) -> bool
+fn any_near(block: &[u8], l: [ObjectId; WAIT_LIST], n: u32) -> bool
     requires { ⌜ length (now block) ≡ 16384 ⌝ }
     ensures { λ r. ⌜ r ≡ def.anyNear (decBlock (now (block .entry)) .objects) (take n (ids l)) ⌝ }
 {
     let mut i: usize = 0;
-    while i < 8 {
+    while i < WAIT_LIST {
         if n <= i as u32 {
             return false;
         }
@@ -49,7 +54,14 @@ fn any_near(block: &[u8], l: [ObjectId; 8], n: u32) -> bool
 }
 
 // A wait for any on objects that are all there, with no timer due, writes nothing before it takes.
-pub fn may_find(block: &[u8], l: [ObjectId; 8], n: u32, all: bool, fires: bool, known: bool) -> bool
+pub fn may_find(
+    block: &[u8],
+    l: [ObjectId; WAIT_LIST],
+    n: u32,
+    all: bool,
+    fires: bool,
+    known: bool,
+) -> bool
     requires { ⌜ length (now block) ≡ 16384 ⌝ }
     ensures { λ r. ⌜ r ≡ def.mayFind (decBlock (now (block .entry)) .objects) (take n (ids l)) all fires known ⌝ }
 {

@@ -6,6 +6,7 @@ use rows::read;
 use svc::Registers;
 use timer_calls::caught;
 use types::thread::ThreadOption;
+use types::thread::WAIT_LIST;
 use types::thread::WaitSyscall;
 use units::Handle;
 use units::Nanos;
@@ -44,7 +45,7 @@ fn wait_one(block: &mut [u8], c: u32, o: ObjectId, nanos: Nanos, tick: Ticks) ->
         return outcome::answers(17);
     }
     let none = ObjectId(0);
-    let mut l = [none; 8];
+    let mut l = [none; WAIT_LIST];
     l[0] = o;
     begin_wait::begin_wait(
         block,

@@ -2,6 +2,7 @@
 use object::handles;
 use objects::open;
 use rows::read;
+use types::thread::WAIT_LIST;
 use units::Handle;
 use units::ObjectId;
 ghost use mathlib.Core.Path.{_≡_};
@@ -12,13 +13,13 @@ ghost use Rattle.objects.specs.Open.{makes};
 ghost use Rattle.wait_calls.specs.Room as def;
 
 // Whether the pseudo-handle p is among the first n handles, before one that names no object.
-fn met(block: &[u8], words: [u32; 8], n: u32, p: Handle) -> bool
+fn met(block: &[u8], words: [u32; WAIT_LIST], n: u32, p: Handle) -> bool
     requires { ⌜ length (now block) ≡ 16384 ⌝ }
     ensures { λ r. ⌜ r ≡ def.met (decBlock (now (block .entry)) .«current_thread») (decBlock (now (block .entry)) .handles) (p .0) (take n words) ⌝ }
 {
     let sought = p.0;
     let mut i: usize = 0;
-    while i < 8 {
+    while i < WAIT_LIST {
         if n <= i as u32 {
             return false;
         }
@@ -35,7 +36,7 @@ fn met(block: &[u8], words: [u32; 8], n: u32, p: Handle) -> bool
 }
 
 // And its object is yet to be made.
-fn wants(block: &[u8], words: [u32; 8], n: u32, p: Handle) -> bool
+fn wants(block: &[u8], words: [u32; WAIT_LIST], n: u32, p: Handle) -> bool
     requires { ⌜ length (now block) ≡ 16384 ⌝ }
     ensures { λ r. ⌜ r ≡ (makes (decBlock (now (block .entry))) (p .0) and def.met (decBlock (now (block .entry)) .«current_thread») (decBlock (now (block .entry)) .handles) (p .0) (take n words)) ⌝ }
 {
@@ -62,7 +63,7 @@ fn lacking(none: bool, one: bool, thread: bool, process: bool) -> bool
 }
 
 // Whether the first n handles make more objects than slots are free.
-pub fn lacks_room(block: &[u8], words: [u32; 8], n: u32) -> bool
+pub fn lacks_room(block: &[u8], words: [u32; WAIT_LIST], n: u32) -> bool
     requires { ⌜ length (now block) ≡ 16384 ⌝ }
     ensures { λ r. ⌜ r ≡ def.lacksRoom (decBlock (now (block .entry)) .«current_thread») (decBlock (now (block .entry)) .handles) (decBlock (now (block .entry)) .objects) (take n words) ⌝ }
 {

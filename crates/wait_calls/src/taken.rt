@@ -1,6 +1,7 @@
 // What a wait that succeeds takes of an object.
 use rows::read;
 use types::thread::ThreadOption;
+use types::thread::WAIT_LIST;
 use units::ObjectId;
 ghost use mathlib.Core.Path.{_≡_};
 ghost use mathlib.Core.Bool.{true, false};
@@ -48,7 +49,7 @@ pub fn take(block: &mut [u8], o: ObjectId, w: u32) -> u32
 
 // The first n, one after the other, each with what those before left. What question 8 finds, 0 for nothing; with a finding those before it
 // are taken already, and the block is left open: `wait_saved` puts back a copy.
-pub fn take_list(block: &mut [u8], l: [ObjectId; 8], n: u32, w: u32) -> u32
+pub fn take_list(block: &mut [u8], l: [ObjectId; WAIT_LIST], n: u32, w: u32) -> u32
     requires { ⌜ length (now block) ≡ 16384 ⌝ }
     requires { ⌜ sound? (now block) ≡ true ⌝ }
     requires { ⌜ outOfHandles? (decBlock (now block)) ≡ false ⌝ }

@@ -9,6 +9,7 @@ use Rattle.due.proofs.Caught.{none-due, state-is, back}
 use borrow.Author.Needs.{needs}
 use Rattle.due.proofs.catch_up.Statement.{statement}
 use Rattle.due.proofs.catch_up.Tie as tie
+use Rattle.types.specs.Thread.{waitList}
 
 timer-due-requires : tie.Need-timer-due-requires
 timer-due-requires c κs = search needs
@@ -36,7 +37,7 @@ returns-2 c = let s = c .before .before .before .before .before .before .before 
     let m = c .before .before .before .before .before .mark-lists .ensures in
     let due = sym (c .before .before .before .before .before .before .before .before .before .timer-due .ensures) ∙ not-false _ (c .before .before .before .before .before .before .before .before .if1 .left) in
     let r = c .before .before .catch-up-slots .ensures in
-    let p = r .0 ∙ ap encBlock (state-is b (s .args .tick .0) (s .pre .1 .0) (s .pre .1 .1) _ due (all-map (λ l. length l ≤ 8) syncList ts (m .1)) (m .0)) in
+    let p = r .0 ∙ ap encBlock (state-is b (s .args .tick .0) (s .pre .1 .0) (s .pre .1 .1) _ due (all-map (λ l. length l ≤ waitList) syncList ts (m .1)) (m .0)) in
     let k = back b (s .args .tick .0) (s .pre .1 .0) (s .pre .1 .1) _ p in
     (k .0, (k .1, r .1))
 

@@ -6,6 +6,7 @@ use lib.Seq.{take-all}
 use Rattle.laws.specs.All.{All, all-take-more}
 use Rattle.laws.specs.Tally.{tally, tallyAll, tallyAll-more, tallyAll-none}
 use Rattle.types.specs.declared.thread.Thread.{Thread}
+use Rattle.types.specs.Thread.{waitList}
 use Rattle.block.specs.Block.{decBlock}
 use Rattle.sound.specs.View.{noThread}
 use Rattle.signal.specs.Marks.{syncList, syncLists}
@@ -17,7 +18,7 @@ use Rattle.due.proofs.mark_lists.Tie as tie
 
 abbrev Inv-loop : tie.InvT-loop
 Inv-loop m₀ b i₀ m i =
-    (i ≤ 32) × ((tallyAll 129 m (syncLists (drop i (decBlock b .threads))) ≡ tallyAll 129 m₀ (syncLists (decBlock b .threads))) × All (λ t. length (syncList t) ≤ 8) (take i (decBlock b .threads)))
+    (i ≤ 32) × ((tallyAll 129 m (syncLists (drop i (decBlock b .threads))) ≡ tallyAll 129 m₀ (syncLists (decBlock b .threads))) × All (λ t. length (syncList t) ≤ waitList) (take i (decBlock b .threads)))
 
 abbrev μ-loop : tie.MeasureT-loop
 μ-loop m₀ b i₀ m i = 32 - i
@@ -47,7 +48,7 @@ loop-again c = let l = c .before .before .before .before .loop in
       search needs,
       (
         ap (λ x. tallyAll 129 x (syncLists (drop (l .i + 1) ts))) (c .mark-list .ensures .0 ∙ ap (λ (t : Thread). tally 129 (l .m) (syncList t)) r) ∙ sym (tallyAll-more 129 syncList ts (l .i) noThread (l .m) h) ∙ l .inv .1 .0,
-        all-take-more (λ t. length (syncList t) ≤ 8) ts (l .i) noThread h (l .inv .1 .1) (subst (λ (t : Thread). length (syncList t) ≤ 8) r (c .mark-list .ensures .1)),
+        all-take-more (λ t. length (syncList t) ≤ waitList) ts (l .i) noThread h (l .inv .1 .1) (subst (λ (t : Thread). length (syncList t) ≤ waitList) r (c .mark-list .ensures .1)),
       ),
     )
 

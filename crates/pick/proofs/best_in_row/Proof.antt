@@ -1,6 +1,6 @@
 -- `pick::best_in_row` meets its contract: a walk of its MIR, by hand, with a loop. Each turn looks into the row, copies one record out, and calls `better_priority` on the copy.
 -- The slice is Copy: what it owns is had twice, one copy is kept whole for the exit, and of the other the fractured borrow is kept.
--- All that the proof knows of `better_priority` is that it meets its contract. No field is named; 120 is the size of a thread in bytes.
+-- All that the proof knows of `better_priority` is that it meets its contract. No field is named.
 -- Assumes nothing.
 use mathlib.Core.Path.{_≡_, refl, sym, _∙_, ap}
 use mathlib.Core.Bool.{Bool, true, false}
@@ -52,7 +52,7 @@ use Rattle.sound.specs.View.{noThread}
 use Rattle.pass.specs.Pick.{better, leastPriority, best as bestOf}
 use Rattle.pick.proofs.Steps.{best-step, best-end}
 use Rattle.types.specs.declared.thread.Thread.{Thread}
-use Rattle.pick.proofs.Row.{R, mach, row}
+use Rattle.pick.proofs.Row.{threadSize, R, mach, row}
 use Rattle.types.proofs.thread.Thread as T
 use Rattle.types.proofs.thread.Thread.Laws as T′
 use Rattle.pick.proofs.better_priority as better-priority
@@ -99,7 +99,7 @@ after ys t less r fits e = record { i = t .i + 1; best = r; upto = omega arith; 
 ended : (ys : List Thread) (t : Turn ys) → length ys ≤ t .i → t .best ≡ bestOf ys
 ended ys t over = sym (best-end ys (t .i) (t .best) over) ∙ t .inv
 
-module _ {M : Type 1} (𝓤 : URA M) (H : Heap 𝓤) (A : Atoms 𝓤) (W : Given 𝓤 H A) (at-mem : Memory → SProp 𝓤) (run : Routine → Fun 𝓤) (κ : Lft) (q : Share) (b o : ℕ) (γ : GName) (ys : List Thread) (count : length ys < 2 ^ 64) (room : length ys * 120 < 2 ^ 63) where
+module _ {M : Type 1} (𝓤 : URA M) (H : Heap 𝓤) (A : Atoms 𝓤) (W : Given 𝓤 H A) (at-mem : Memory → SProp 𝓤) (run : Routine → Fun 𝓤) (κ : Lft) (q : Share) (b o : ℕ) (γ : GName) (ys : List Thread) (count : length ys < 2 ^ 64) (room : length ys * threadSize < 2 ^ 63) where
   abbrev n : ℕ
   n = length ys
 
@@ -169,7 +169,7 @@ module _ {M : Type 1} (𝓤 : URA M) (H : Heap 𝓤) (A : Atoms 𝓤) (W : Given
         -- the place of row[i]
         assigns ! (bin ! (load ! (from ! (stop !)) (look ! 11 refl)) (lit ! tt) (record { fits = far })) (from ! (stop !)) (store ! 9 refl (tt, record { fits = far })) $
         assigns ! (bin ! (load ! (from ! (fld ! refl (stop !))) (look-in ! 15 (sub ! 0 refl (whole !)))) (load ! (from ! (stop !)) (look ! 9 refl)) tt) (from ! (stop !)) (init ! 5 refl (tt, tt)) $
-        rewrite ! 5 (λ (p : ℕ). ‵ (fat fullShare tyPtr l₆ 0 (vptr b p))) (sym (place-is 120 o (t .i))) refl $
+        rewrite ! 5 (λ (p : ℕ). ‵ (fat fullShare tyPtr l₆ 0 (vptr b p))) (sym (place-is threadSize o (t .i))) refl $
         -- the row is looked into, row[i] is copied, and the row is shut
         looks-slice ! tt R (Is R) (shows 𝓤 H A R) (LL.vals T.the-type T′.the-laws) (LL.tells T.the-type T′.the-laws) (LL.copy T.the-type T′.the-copy 𝓤 H A W) ys b o (λ q′.
         elem-out ! R (Is R) (shows 𝓤 H A R) (LL.vals T.the-type T′.the-laws) (LL.tells T.the-type T′.the-laws) q′ ys (t .i) noThread b o less (λ g.
@@ -189,7 +189,7 @@ module _ {M : Type 1} (𝓤 : URA M) (H : Heap 𝓤) (A : Atoms 𝓤) (W : Given
         h : Thread
         h = getD ys (t .i) noThread
 
-        far : t .i * 120 < 2 ^ 64
+        far : t .i * threadSize < 2 ^ 64
         far = omega arith
 
         next : t .i + 1 < 2 ^ 64

@@ -45,7 +45,7 @@ use denote.Exit.{yes}
 use Rattle.pass.specs.Pick.{cyclic as cyclicOf}
 use Rattle.types.specs.declared.thread.Thread.{Thread}
 use Rattle.types.specs.declared.thread.ThreadOption.{ThreadOption}
-use Rattle.pick.proofs.Row.{R, Rs, vals, machs, table, row, tells, Row, makes, row-in, row-out}
+use Rattle.pick.proofs.Row.{threadSize, R, Rs, vals, machs, table, row, tells, Row, makes, row-in, row-out}
 use Rattle.types.proofs.thread.Thread as T
 use Rattle.types.proofs.thread.Thread.Laws as T′
 use Rattle.types.proofs.thread.ThreadOption as S
@@ -86,7 +86,7 @@ module _ {M : Type 1} (𝓤 : URA M) (H : Heap 𝓤) (A : Atoms 𝓤) (W : Given
   count : length ts < 2 ^ 64
   count = omega (arith, len)
 
-  bytes : length ts * 120 < 2 ^ 63
+  bytes : length ts * threadSize < 2 ^ 63
   bytes = omega (arith, len)
 
   -- the row that is lent: the table at block b, under the name γ

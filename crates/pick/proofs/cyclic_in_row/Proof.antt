@@ -1,6 +1,6 @@
 -- `pick::cyclic_in_row` meets its contract: a walk of its MIR, by hand, with a loop that has a `return` in it. Each turn looks into the row, copies one record out, and calls `runs_at` on the copy.
 -- The slice is Copy: what it owns is had twice, one copy is kept whole for the exit, and of the other the fractured borrow is kept.
--- All that the proof knows of `runs_at` is that it meets its contract. 120 is the size of a thread in bytes.
+-- All that the proof knows of `runs_at` is that it meets its contract.
 -- Assumes nothing.
 use mathlib.Core.Path.{_≡_, refl, sym, _∙_, ap}
 use mathlib.Core.Bool.{Bool, true, false, not}
@@ -57,7 +57,7 @@ use Rattle.pick.proofs.Turns.{turns as goneOver, turns-step, turns-end,
 use Rattle.types.specs.declared.thread.Thread.{Thread}
 use Rattle.types.specs.declared.thread.ThreadOption.{ThreadOption}
 use Rattle.types.specs.declared.thread.ThreadOption.the-variants.{NoThread, SomeThread}
-use Rattle.pick.proofs.Row.{R, mach, row}
+use Rattle.pick.proofs.Row.{threadSize, R, mach, row}
 use Rattle.types.proofs.thread.Thread as T
 use Rattle.types.proofs.thread.Thread.Laws as T′
 use Rattle.types.proofs.thread.ThreadOption as S
@@ -138,7 +138,7 @@ at-is p fits = EL.owes S.the-type S′.the-laws (SomeThread p) ((refl, fits), tt
 none-is : Is S.the-row NoThread (low NoThread ∷ [])
 none-is = EL.owes S.the-type S′.the-laws NoThread tt
 
-module _ {M : Type 1} (𝓤 : URA M) (H : Heap 𝓤) (A : Atoms 𝓤) (W : Given 𝓤 H A) (at-mem : Memory → SProp 𝓤) (run : Routine → Fun 𝓤) (κ : Lft) (q : Share) (b o : ℕ) (γ : GName) (ys : List Thread) (m s : ℕ) (count : length ys < 2 ^ 64) (room : length ys * 120 < 2 ^ 63) (m-fits : m < 2 ^ 32) (s-fits : s < 2 ^ 64) (ok : (s ≤ length ys) × (length ys ≤ 32)) where
+module _ {M : Type 1} (𝓤 : URA M) (H : Heap 𝓤) (A : Atoms 𝓤) (W : Given 𝓤 H A) (at-mem : Memory → SProp 𝓤) (run : Routine → Fun 𝓤) (κ : Lft) (q : Share) (b o : ℕ) (γ : GName) (ys : List Thread) (m s : ℕ) (count : length ys < 2 ^ 64) (room : length ys * threadSize < 2 ^ 63) (m-fits : m < 2 ^ 32) (s-fits : s < 2 ^ 64) (ok : (s ≤ length ys) × (length ys ≤ 32)) where
   abbrev n : ℕ
   n = length ys
 
@@ -217,7 +217,7 @@ module _ {M : Type 1} (𝓤 : URA M) (H : Heap 𝓤) (A : Atoms 𝓤) (W : Given
         assigns ! (bin ! (load ! (from ! (stop !)) (look ! 15 refl)) (load ! (from ! (stop !)) (look ! 11 refl)) some-row) (from ! (stop !)) (init ! 17 refl (tt, record { fits = p-fits })) $
         assigns ! (bin ! (load ! (from ! (stop !)) (look ! 17 refl)) (lit ! tt) (record { fits = far })) (from ! (stop !)) (store ! 15 refl (tt, record { fits = far })) $
         assigns ! (bin ! (load ! (from ! (fld ! refl (stop !))) (look-in ! 25 (sub ! 0 refl (whole !)))) (load ! (from ! (stop !)) (look ! 15 refl)) tt) (from ! (stop !)) (init ! 7 refl (tt, tt)) $
-        rewrite ! 7 (λ (y : ℕ). ‵ (fat fullShare tyPtr l₁₀ 0 (vptr b y))) (sym (place-is 120 o p)) refl $
+        rewrite ! 7 (λ (y : ℕ). ‵ (fat fullShare tyPtr l₁₀ 0 (vptr b y))) (sym (place-is threadSize o p)) refl $
         -- the row is looked into, row[at] is copied, and the row is shut
         looks-slice ! tt R (Is R) (shows 𝓤 H A R) (LL.vals T.the-type T′.the-laws) (LL.tells T.the-type T′.the-laws) (LL.copy T.the-type T′.the-copy 𝓤 H A W) ys b o (λ q′.
         elem-out ! R (Is R) (shows 𝓤 H A R) (LL.vals T.the-type T′.the-laws) (LL.tells T.the-type T′.the-laws) q′ ys p noThread b o within (λ g.
@@ -265,7 +265,7 @@ module _ {M : Type 1} (𝓤 : URA M) (H : Heap 𝓤) (A : Atoms 𝓤) (W : Given
         small : p < 2 ^ 32
         small = omega (arith, within)
 
-        far : p * 120 < 2 ^ 64
+        far : p * threadSize < 2 ^ 64
         far = omega (arith, within)
 
         next : t .k + 1 < 2 ^ 64

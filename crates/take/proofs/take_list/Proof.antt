@@ -5,6 +5,7 @@ use Prim.Native.Nat.{ℕ, _+_, _-_, _≤_}
 use native.Mathlib.Omega.{arith}
 use lib.ListN.{length, take, drop, getD}
 use Rattle.types.specs.declared.thread.Thread.{Thread}
+use Rattle.types.specs.Thread.{waitList}
 use Rattle.block.specs.Block.{decBlock}
 use Rattle.sound.specs.View.{ids}
 use Rattle.sound.specs.Objects.{Live}
@@ -15,10 +16,10 @@ use Rattle.take.proofs.take_list.Statement.{statement}
 use Rattle.take.proofs.take_list.Tie as tie
 
 abbrev Inv-loop : tie.InvT-loop
-Inv-loop block₀ n w l i₀ block i = (i ≤ 8) × ((length block ≡ 16384) × Taking (decBlock block₀) (take n (ids l)) w block (drop i (take n (ids l))))
+Inv-loop block₀ n w l i₀ block i = (i ≤ waitList) × ((length block ≡ 16384) × Taking (decBlock block₀) (take n (ids l)) w block (drop i (take n (ids l))))
 
 abbrev μ-loop : tie.MeasureT-loop
-μ-loop block₀ n w l i₀ block i = 8 - i
+μ-loop block₀ n w l i₀ block i = waitList - i
 
 loop-holds : tie.Need-loop-holds Inv-loop μ-loop
 loop-holds c = (search needs, (c .before .pre .0, record { sound = c .before .pre .1 .0; threads = refl; goal = refl }))

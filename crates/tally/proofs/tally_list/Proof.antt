@@ -8,12 +8,13 @@ use Rattle.sound.specs.View.{ids}
 use borrow.Author.Needs.{needs}
 use Rattle.tally.proofs.tally_list.Statement.{statement}
 use Rattle.tally.proofs.tally_list.Tie as tie
+use Rattle.types.specs.Thread.{waitList}
 
 abbrev Inv-loop : tie.InvT-loop
-Inv-loop c₀ l i₀ c i = (i ≤ 8) × (tally 129 c (ids (drop i l)) ≡ tally 129 c₀ (ids l))
+Inv-loop c₀ l i₀ c i = (i ≤ waitList) × (tally 129 c (ids (drop i l)) ≡ tally 129 c₀ (ids l))
 
 abbrev μ-loop : tie.MeasureT-loop
-μ-loop c₀ l i₀ c i = 8 - i
+μ-loop c₀ l i₀ c i = waitList - i
 
 loop-holds : tie.Need-loop-holds Inv-loop μ-loop
 loop-holds c = (search needs, refl)
@@ -37,7 +38,7 @@ loop-again : tie.Need-loop-again Inv-loop μ-loop
 loop-again c =
     let l = c .before .before .before .before .loop in
     let s = c .before .before .before .before .before in
-    let n : length (s .args .t2) ≡ 8 = omega (arith, s .good) in
+    let n : length (s .args .t2) ≡ waitList = omega (arith, s .good) in
     let h : l .i < length (s .args .t2) = omega arith in
     (search needs, rw (c .bump-at .ensures) (sym (tally-more 129 (λ (o : ObjectId). o .0) (s .args .t2) (l .i) (record { 0 = 0 }) (l .c) h) ∙ l .inv .1))
 
@@ -45,7 +46,7 @@ returns : tie.Need-returns Inv-loop μ-loop
 returns c =
     let l = c .before .loop in
     let s = c .before .before in
-    let n : length (s .args .t2) ≡ 8 = omega (arith, s .good) in
+    let n : length (s .args .t2) ≡ waitList = omega (arith, s .good) in
     let e : length (s .args .t2) ≤ l .i = omega arith in
     (sym (tally-none 129 (λ (o : ObjectId). o .0) (s .args .t2) (l .c) (l .i) e) ∙ l .inv .1, n)
 

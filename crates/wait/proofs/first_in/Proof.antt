@@ -10,12 +10,13 @@ use Rattle.wait.specs.Looks.{firstWhere}
 use borrow.Author.Needs.{needs}
 use Rattle.wait.proofs.first_in.Statement.{statement}
 use Rattle.wait.proofs.first_in.Tie as tie
+use Rattle.types.specs.Thread.{waitList}
 
 abbrev Inv-loop : tie.InvT-loop
-Inv-loop block n w want l i₀ i = (i ≤ 8) × (firstWhere (decBlock block .threads) (decBlock block .objects .slots) w want i (drop i (take n (ids l))) ≡ firstWhere (decBlock block .threads) (decBlock block .objects .slots) w want 0 (take n (ids l)))
+Inv-loop block n w want l i₀ i = (i ≤ waitList) × (firstWhere (decBlock block .threads) (decBlock block .objects .slots) w want i (drop i (take n (ids l))) ≡ firstWhere (decBlock block .threads) (decBlock block .objects .slots) w want 0 (take n (ids l)))
 
 abbrev μ-loop : tie.MeasureT-loop
-μ-loop block n w want l i₀ i = 8 - i
+μ-loop block n w want l i₀ i = waitList - i
 
 loop-holds : tie.Need-loop-holds Inv-loop μ-loop
 loop-holds c = (search needs, refl)

@@ -7,7 +7,7 @@ use crate::rich::{rich, Size, ADDRESSES};
 use crate::state::{Object, State, WaitResult};
 use crate::{blocks, codec};
 use oracle::gen::Rng;
-use oracle::{accepted, Answer, Judged, Op, Oracle, Out, HANDLES, LAST_NEXT, LIST, OBJECTS, RECORDS, THREADS};
+use oracle::{accepted, Answer, Judged, Op, Oracle, Out, HANDLES, LAST_NEXT, LIST, OBJECTS, RECORDS, THREADS, WAIT_AT_ONCE};
 use std::hint::black_box;
 use std::time::Instant;
 use zakuro_core::kernel::{svc, Kernel};
@@ -75,7 +75,7 @@ fn cases(state: &'static str, plain: &State, room: &State) -> Vec<Case> {
     let event = |signaled: bool| Object::Event { reset: 0, signaled };
     let timer = Object::Timer { reset: 0, signaled: true, fire_at: Some(DUE + 1), interval: 0 };
     let (s, handle) = with(Object::ResourceLimit);
-    on("satisfied", &s, 0, Op::Satisfied { handles: vec![handle; LIST], all: true, tick: EARLY });
+    on("satisfied", &s, 0, Op::Satisfied { handles: vec![handle; WAIT_AT_ONCE], all: true, tick: EARLY });
     let (s, handle) = with(held);
     on("quiet", &s, 0, Op::Quiet { handle, tick: EARLY });
     let mut s = room.clone();

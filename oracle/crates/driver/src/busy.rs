@@ -27,9 +27,10 @@ pub fn empty(running: bool) -> State {
     s
 }
 
-/// every thread waits for all of eight timers, 100 timers are periodic and keep their signal for the pass, so that a pass at
-/// `DUE` fires each and ends each wait; the other objects are of all kinds, and every handle and record is in use. With room the
-/// first thread runs and is the most urgent, and the last thread place and `ROOM` objects, handles and records are free.
+/// every thread waits for all timers of a list of `LIST`, 100 timers are periodic and keep their signal for the pass, so
+/// that a pass at `DUE` fires each and ends each wait; the other objects are of all kinds, and every handle and record is
+/// in use. With room the first thread runs and is the most urgent, and the last thread place and `ROOM` objects, handles
+/// and records are free.
 pub fn busy(room: bool) -> State {
     let mut s = State::fresh(0x10);
     let free = if room { ROOM } else { 0 };

@@ -1,7 +1,7 @@
 //! edits of a block's bytes: faults, and changes that leave it sound. `question::sound` says which.
 use crate::codec::*;
 use oracle::gen::Rng;
-use oracle::{HANDLES, OBJECTS, RECORDS, THREADS};
+use oracle::{HANDLES, LIST, OBJECTS, RECORDS, THREADS};
 
 type Edit = fn(&mut [u8], &mut Rng);
 
@@ -22,7 +22,7 @@ pub const EDITS: [(&str, Edit); 10] = [
 struct Table { at: usize, rows: usize, row: usize, used: usize }
 const TABLES: [Table; 6] = [
     Table { at: 0, rows: 1, row: 128, used: 52 },
-    Table { at: THREADS_AT, rows: THREADS, row: THREAD, used: 112 },
+    Table { at: THREADS_AT, rows: THREADS, row: THREAD, used: THREAD_SPARE },
     Table { at: SLOTS_AT, rows: OBJECTS, row: SLOT, used: SLOT },
     Table { at: HANDLES_AT, rows: HANDLES, row: ENTRY, used: ENTRY },
     Table { at: RECORDS_AT, rows: RECORDS, row: RECORD, used: RECORD },
@@ -31,8 +31,8 @@ const TABLES: [Table; 6] = [
 
 /// a table, and a row of it, mostly one that is not all zero.
 fn row(b: &[u8], r: &mut Rng) -> (&'static Table, usize) {
-    const LIST: &[Table] = &TABLES;
-    let t = &LIST[r.below(LIST.len() as u64) as usize];
+    const ALL: &[Table] = &TABLES;
+    let t = &ALL[r.below(ALL.len() as u64) as usize];
     let mut at = t.at;
     for _ in 0..8 {
         at = t.at + t.row * r.below(t.rows as u64) as usize;
@@ -50,7 +50,8 @@ fn field_bit(b: &mut [u8], r: &mut Rng) {
 }
 fn field_number(b: &mut [u8], r: &mut Rng) {
     let at = field(b, r);
-    let word = match r.below(4) { 0 => r.below(10) as u32, 1 => r.below(130) as u32, 2 => get32(b, at).wrapping_add(r.pick(&[1, u32::MAX])), _ => r.next() as u32 };
+    // small ones up to a count of one place more than a list has
+    let word = match r.below(4) { 0 => r.below(LIST as u64 + 2) as u32, 1 => r.below(130) as u32, 2 => get32(b, at).wrapping_add(r.pick(&[1, u32::MAX])), _ => r.next() as u32 };
     put32(b, at, word);
 }
 fn field_of_another(b: &mut [u8], r: &mut Rng) {
@@ -91,6 +92,11 @@ fn records_renumbered(b: &mut [u8], r: &mut Rng) {
     }
 }
 fn spare_byte(b: &mut [u8], r: &mut Rng) {
-    let at = match r.below(3) { 0 => 52 + r.below(76), 1 => THREADS_AT as u64 + THREAD as u64 * r.below(32) + 112 + r.below(48), _ => 13_312 + r.below(3_072) };
-    b[at as usize] = 1 << r.below(8);
+    let mut below = |n: usize| r.below(n as u64) as usize;
+    let at = match below(3) {
+        0 => 52 + below(76),
+        1 => THREADS_AT + THREAD * below(THREADS) + THREAD_SPARE + below(THREAD - THREAD_SPARE),
+        _ => 13_312 + below(3_072),
+    };
+    b[at] = 1 << below(8);
 }

@@ -4,6 +4,9 @@ use oracle::{HANDLES, LIST, OBJECTS, RECORDS, THREADS};
 
 pub const BLOCK: usize = 16_384;
 pub const THREAD: usize = 160;
+/// where the list of a thread record begins, and the spare bytes after it.
+pub const WAIT_OBJECTS: usize = 80;
+pub const THREAD_SPARE: usize = WAIT_OBJECTS + 4 * LIST;
 pub const SLOT: usize = 40;
 pub const ENTRY: usize = 8;
 pub const RECORD: usize = 12;
@@ -47,7 +50,7 @@ fn put_thread(b: &mut [u8], t: &Thread) {
     for (i, word) in words.into_iter().enumerate() { put32(b, 4 * i, word); }
     put64(b, 64, t.wakeup_at.unwrap_or(0));
     put64(b, 72, t.running_since);
-    for (i, object) in t.wait_objects.iter().enumerate() { put32(b, 80 + 4 * i, *object); }
+    for (i, object) in t.wait_objects.iter().enumerate() { put32(b, WAIT_OBJECTS + 4 * i, *object); }
 }
 
 fn put_slot(b: &mut [u8], s: &Slot) {
@@ -106,7 +109,7 @@ fn get_thread(b: &[u8]) -> Result<Thread, String> {
     let known = |at: usize, most: u32| if word(at) <= most { Ok(word(at)) } else { Err(format!("number at {at} of a thread")) };
     Ok(Thread {
         status: known(0, 6)?, priority: word(4), entry: word(8), stack_top: word(12), tls: word(16), processor_id: word(20),
-        wait_objects: (0..known(24, LIST as u32)? as usize).map(|i| word(80 + 4 * i)).collect(),
+        wait_objects: (0..known(24, LIST as u32)? as usize).map(|i| word(WAIT_OBJECTS + 4 * i)).collect(),
         wait_all: flag(28)?, waited: flag(32)?,
         wakeup_at: flag(36)?.then_some(get64(b, 64)),
         wait_address: flag(40)?.then_some(word(44)),

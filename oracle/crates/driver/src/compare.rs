@@ -142,9 +142,10 @@ impl Run<'_> {
     fn unreached(&mut self) -> Result<(), String> {
         let mut lent = Lent::random(&mut self.r);
         self.block(&lent, Source("bytes", "random"))?;
-        lent.set_window(crate::rich::ADDRESSES, 64, 0x10000);
         let size = Size::random(&mut self.r);
-        lent.block = codec::encode(&rich(&mut self.r, &size));
+        let s = rich(&mut self.r, &size);
+        lent.block = codec::encode(&s);
+        lent.set_window(crate::rich::ADDRESSES, 64, &s.handles.iter().map(|h| h.0).collect::<Vec<_>>());
         self.block(&lent, Source("built", ""))?;
         for _ in 0..200 { self.edited(&lent)?; }
         Ok(())

@@ -32,9 +32,11 @@ impl Lent {
         Ok(())
     }
 
-    /// a window whose words are handles, so that guest calls on built blocks find some.
-    pub fn set_window(&mut self, base: u32, words: u32, handle: u32) {
-        self.window = (0..words).flat_map(|i| (handle + i).to_le_bytes()).collect();
+    /// a window whose words are these handles in turn, so that guest calls on built blocks find some. Every 16th is 0,
+    /// so that long lists may have one that is not open.
+    pub fn set_window(&mut self, base: u32, words: usize, handles: &[u32]) {
+        let word = |i: usize| if i % 16 == 15 { 0 } else { handles[i % handles.len()] };
+        self.window = (0..words).flat_map(|i| word(i).to_le_bytes()).collect();
         self.base = base;
     }
 

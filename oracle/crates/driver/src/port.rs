@@ -1,7 +1,7 @@
 //! the library's operations. One that the library gains gets its entry here; the rest of the driver goes by the list.
 use crate::lent::Lent;
 use oracle::gen::Rng;
-use oracle::{Op, Out, CALLS};
+use oracle::{Op, Out, CALLS, LIST, WAIT_AT_ONCE};
 
 pub struct Operation {
     pub name: &'static str,
@@ -204,6 +204,9 @@ fn any_handle(r: &mut Rng) -> u32 { if r.pct(4) { 0xFFFF_8000 + r.below(2) as u3
 
 fn any_tick(r: &mut Rng) -> u64 { if r.pct(5) { u64::MAX - r.below(3) } else { r.next() >> r.below(64) } }
 
+/// from the most that satisfied_now looks at to one more than the longest list of 0x25.
+fn long_list(r: &mut Rng) -> u64 { WAIT_AT_ONCE as u64 + r.below((LIST + 2 - WAIT_AT_ONCE) as u64) }
+
 const SATISFIED_NOW: Operation = Operation {
     name: "satisfied",
     answer_len: 40,
@@ -223,7 +226,7 @@ const SATISFIED_NOW: Operation = Operation {
         words.flat_map(u32::to_le_bytes).collect()
     },
     try_on: |r, _| {
-        let n = if r.pct(5) { 9 } else { r.below(4) };
+        let n = if r.pct(8) { long_list(r) } else { r.below(4) };
         Some(Op::Satisfied { handles: (0..n).map(|_| any_handle(r)).collect(), all: r.pct(50), tick: any_tick(r) })
     },
 };
@@ -282,7 +285,7 @@ const COLLECT: Operation = Operation {
 
 /// guest calls.
 mod dispatch {
-    use super::{any_handle, any_tick, Operation};
+    use super::{any_handle, any_tick, long_list, Operation};
     use crate::codec::get32;
     use crate::lent::Lent;
     use oracle::gen::Rng;
@@ -362,6 +365,7 @@ mod dispatch {
             _ => {}
         }
         if matches!(num, 0x22 | 0x25) { regs[1] = any_address(r, lent); }
+        if num == 0x25 && r.pct(25) { regs[2] = long_list(r) as u32; }
         // arbitration near the word that is there
         let at = regs[1].wrapping_sub(lent.base) as usize;
         if num == 0x22 && r.pct(70) && lent.window.len() >= 4 && at <= lent.window.len() - 4 { regs[3] = get32(&lent.window, at).wrapping_add(regs[3]); }

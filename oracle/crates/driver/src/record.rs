@@ -15,14 +15,17 @@ use crate::lent::{Lent, BANK, CONTEXT};
 use crate::port::{Chosen, Operation, OPERATIONS};
 use crate::state::{Object, State};
 use oracle::gen::{Gen, PROFILES};
-use oracle::{accepted, dedup, Judged, Op, Oracle, Out, CALLS};
+use oracle::{accepted, dedup, Judged, Op, Oracle, Out, CALLS, LIST, WAIT_AT_ONCE};
 use std::collections::{BTreeMap, BTreeSet};
 use std::fmt::Write;
 use zakuro_core::kernel::object::KObject;
+use zakuro_core::kernel::thread::ThreadStatus;
 
 /// what the program fills answer slices with, to see that a refusal leaves them.
 const UNTOUCHED: u8 = 0xA5;
 const WINDOW: usize = 256;
+/// the handles of a list that a line of the record has room for; a longer one only looks and is left out.
+const LINE_HANDLES: usize = 9;
 
 /// the operations of a sequence, the host's among them, before its profile counts as shown.
 const ENOUGH: usize = 40;
@@ -128,6 +131,21 @@ fn what(out: &Out) -> Option<&'static str> {
     })
 }
 
+/// lists of the lengths that are limits; `o` is the state after the operation.
+fn limit(op: &Op, code: u32, o: &Oracle) -> Option<&'static str> {
+    let waits = o.sys.kernel.current().is_some_and(|t| t.status == ThreadStatus::WaitSync);
+    match op {
+        Op::Call { num: 0x25, regs, .. } => match (regs[2] as usize, code) {
+            (LIST, 0) => Some(if waits { "the longest list waits" } else { "the longest list at once" }),
+            (n, 5) if n == LIST + 1 => Some("one handle too many"),
+            _ => None,
+        },
+        Op::Satisfied { handles, .. } if handles.len() == WAIT_AT_ONCE => Some("eight handles"),
+        Op::Satisfied { handles, .. } if handles.len() == WAIT_AT_ONCE + 1 => Some("nine handles"),
+        _ => None,
+    }
+}
+
 /// one operation: its lines, what it shows, and its number if it is one of the library's.
 struct Entry { text: String, shows: Vec<Shown>, code: Option<u32> }
 
@@ -150,10 +168,14 @@ fn operation(x: &Operation, op: &Op, o: &mut Oracle, lent: &mut Lent) -> Result<
         lent.block = encode_as(o, &library.block)?;
     }
     if (code, &slice, &library) != (answer.code, &expected, &*lent) { return Err(format!("the library differs on {op:?}")); }
+    if matches!(op, Op::Satisfied { handles, .. } if handles.len() > LINE_HANDLES) {
+        return Ok(Entry { text: String::new(), shows: vec![], code: None });
+    }
     let (letter, arguments) = line(op);
     let call = if let Op::Call { num, .. } = op { CALLS.contains(num).then_some(*num) } else { None };
     let mut shows = vec![Shown::Code { name: x.name, call, code: answer.code }];
     if let (false, Some(what)) = (refused, what(&answer.out)) { shows.push(Shown::Out { name: x.name, what }); }
+    if let Some(what) = limit(op, answer.code, o) { shows.push(Shown::Out { name: x.name, what }); }
     Ok(Entry { text: format!("{letter} {:x} {:x}{arguments}\n", answer.code, hash(&expected, lent)), shows, code: Some(answer.code) })
 }
 

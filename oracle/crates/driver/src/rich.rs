@@ -99,7 +99,7 @@ fn thread(r: &mut Rng) -> Thread {
         status: r.pick(&[0, 2, 3, 4, 4, 4, 5, 6]), priority: r.below(64) as u32, entry: r.next() as u32, stack_top: r.next() as u32, tls: 0,
         processor_id: r.pick(&[-2i32 as u32, 0, 1]), wait_objects: vec![], wait_all: r.pct(50), waited: r.pct(50),
         wakeup_at: r.pct(50).then(|| tick(r)), wait_address: r.pct(40).then(|| 0x1000 * r.below(3) as u32),
-        wait_result: match r.below(3) { 0 => None, 1 => Some(WaitResult::TimedOut), _ => Some(WaitResult::Signaled(r.below(9) as u32)) },
+        wait_result: match r.below(3) { 0 => None, 1 => Some(WaitResult::TimedOut), _ => Some(WaitResult::Signaled(r.below(LIST as u64 + 1) as u32)) },
         wait_syscall: r.below(5) as u32, guest_id: r.below(100) as u32, running_since: tick(r),
     }
 }
@@ -108,7 +108,7 @@ fn object(r: &mut Rng, kind: u64, threads: u32, live: &[u32]) -> Object {
     match kind {
         1 => Object::Thread(r.below(threads as u64) as u32),
         2 => Object::Event { reset: r.below(3) as u32, signaled: r.pct(50) },
-        3 => Object::Mutex { owner: r.pct(60).then(|| r.pick(live)), lock_count: r.pick(&[0, 0, 1, 2, u32::MAX]) },
+        3 => Object::Mutex { owner: r.pct(60).then(|| r.pick(live)), lock_count: r.pick(&[0, 0, 1, 2, u32::MAX - LIST as u32, u32::MAX]) },
         4 => Object::Semaphore { count: r.pick(&[0, 1, -1, i32::MIN, i32::MAX]), max_count: r.pick(&[0, 1, 3, i32::MIN, i32::MAX]) },
         5 => Object::Timer { reset: r.below(3) as u32, signaled: r.pct(50), fire_at: r.pct(60).then(|| tick(r)), interval: r.pick(&[0, 0, 1, 1000, u64::MAX]) },
         6 => Object::Arbiter { first: 0 },

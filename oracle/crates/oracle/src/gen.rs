@@ -1,5 +1,5 @@
 //! seeded random sequences that look at the oracle's state to reach its corners.
-use crate::{Hand, Op, Oracle, STARVATION};
+use crate::{Hand, Op, Oracle, LIST, STARVATION, WAIT_AT_ONCE};
 use std::collections::VecDeque;
 use zakuro_core::kernel::object::KObject;
 use zakuro_core::kernel::thread::ThreadStatus;
@@ -56,7 +56,7 @@ impl Gen {
             _ => match g.rng.below(4) { 0 => 0, 1 => g.rng.below(1000), _ => g.rng.below(1 << 40) },
         };
         // what the host lends
-        g.words = match g.rng.below(20) { 0 => 0, 1 => 2, 2 => 8, _ => 64 };
+        g.words = match g.rng.below(20) { 0 => 0, 1 => 2, 2 => LIST as u32, _ => 64 };
         let len = g.words * 4;
         g.base = match g.rng.below(10) {
             0 => 0u32.wrapping_sub(len),
@@ -175,6 +175,9 @@ impl Gen {
         first.wrapping_add(4 * self.rng.below(n) as u32)
     }
 
+    /// how long a long list is: the eight of satisfied_now, and all lengths up to one more than the longest of 0x25.
+    fn long(&mut self) -> usize { WAIT_AT_ONCE + self.rng.below((LIST + 2 - WAIT_AT_ONCE) as u64) as usize }
+
     fn call(&mut self, num: u32, regs: [u32; 6], tick: u64) -> Op { Op::Call { num, regs, tick } }
 
     fn waitn(&mut self, o: &Oracle, hs: &[u32], all: bool, ns: u64, out: &mut Vec<Op>) {
@@ -274,7 +277,8 @@ impl Gen {
                 regs[2] = ns as u32; regs[3] = (ns >> 32) as u32;
             }
             0x25 => {
-                let n = match self.rng.below(40) { 0 => 0, 1 => 9, 2 => 8, x => 1 + x % 5 };
+                let n = self.rng.below(40) as usize;
+                let n = match n { 0 => 0, 1 => LIST + 1, 2 => LIST, 3 | 4 => self.long(), x => 1 + x % 5 };
                 let mut hs: Vec<u32> = Vec::new();
                 for _ in 0..n {
                     let k = self.rng.pick(&[None, Some(K::Event), Some(K::Mutex), Some(K::Sem), Some(K::Timer), Some(K::Thread)]);
@@ -287,7 +291,7 @@ impl Gen {
                 let all = self.rng.pct(50);
                 let count = hs.len();
                 self.waitn(o, &hs, all, ns, &mut out);
-                if self.rng.pct(1) { if let Some(Op::Call { regs, .. }) = out.last_mut() { regs[2] = [9, 100, u32::MAX][count % 3]; } }
+                if self.rng.pct(1) { if let Some(Op::Call { regs, .. }) = out.last_mut() { regs[2] = [LIST as u32 + 1, 100, u32::MAX][count % 3]; } }
                 return out;
             }
             0x27 => regs[1] = self.handle(o, None),
@@ -358,7 +362,7 @@ impl Gen {
                 // a semaphore several times in one wait-all
                 let c = self.rng.below(4) as u32;
                 out.push(Op::Call { num: 0x15, regs: [0, c, 3, 0, 0, 0], tick: t });
-                let n = 1 + self.rng.below(8) as usize;
+                let n = 1 + self.rng.below(LIST as u64) as usize;
                 let mut hs = vec![next; n];
                 if self.rng.pct(30) { let h = self.handle(o, None); hs[0] = h; }
                 let (all, ns) = (self.rng.pct(80), self.nanos());
@@ -425,7 +429,24 @@ impl Gen {
                 9 => return Op::Hand(Hand::Mark { object: (1 + self.rng.below(k.objects.iter().count() as u64 + 2) as u32).min(crate::OBJECTS as u32) }),
                 0 => { let n = self.rng.pick(&[0xFFFF_7FFD, 0xFFFF_7FFE, 0xFFFF_7FFF, 0xFFFF_8000]); if n >= crate::checked::holdings(&o.sys).next_handle { return Op::Hand(Hand::NextHandle(n)); } }
                 1 => return Op::Hand(Hand::NextGuest(self.rng.pick(&[u32::MAX, u32::MAX - 1, u32::MAX - 2, 0, 100, 1 << 20]))),
-                2 => { let v: Vec<u32> = k.objects.iter().filter(|(_, ob)| matches!(ob, KObject::Mutex(m) if m.owner.is_some())).map(|(i, _)| i.0 + 1).collect(); if !v.is_empty() { return Op::Hand(Hand::Lock { object: self.rng.pick(&v), count: self.rng.pick(&[u32::MAX, u32::MAX - 1, 2]) }); } }
+                2 => {
+                    let owned = |ob: &KObject| match ob { KObject::Mutex(m) => m.owner, _ => None };
+                    let v: Vec<(u32, u32)> = k.objects.iter().filter_map(|(i, ob)| Some((i.0, owned(ob)?))).collect();
+                    if !v.is_empty() {
+                        let (slot, owner) = self.rng.pick(&v);
+                        let handle = k.handles.iter().filter(|(_, x)| x.0 == slot).map(|(h, _)| h).min();
+                        // the last count that takes the longest list of locks, and one more
+                        let near = u32::MAX - LIST as u32;
+                        let mut count = self.rng.pick(&[u32::MAX, u32::MAX - 1, 2, near, near + 1]);
+                        if let (true, Some(h)) = (k.current_thread == Some(owner) && self.rng.pct(60), handle) {
+                            count = near + self.rng.below(2) as u32;
+                            let mut out = Vec::new();
+                            self.waitn(o, &[h; LIST], true, 0, &mut out);
+                            self.queue.extend(out);
+                        }
+                        return Op::Hand(Hand::Lock { object: slot + 1, count });
+                    }
+                }
                 3 => { let v = of(K::Sem); if !v.is_empty() { return Op::Hand(Hand::Sem { object: self.rng.pick(&v), count: self.rng.pick(&[i32::MIN, i32::MAX, i32::MIN + 3, 1, 0]), max: self.rng.pick(&[i32::MAX, i32::MIN, 0, 3]) }); } }
                 4 | 5 => { let v = of(K::Timer); if !v.is_empty() {
                     let at = self.rng.pick(&[Some(0), Some(1), Some(u64::MAX), Some(self.tick), None]);
@@ -511,7 +532,8 @@ impl Gen {
                     }
                     2 => vec![Op::NextEvent],
                     3 | 4 => {
-                        let n = self.rng.pick(&[0, 1, 1, 2, 2, 3, 5, 8, 9]);
+                        let long = self.long();
+                        let n = self.rng.pick(&[0, 1, 1, 2, 2, 3, 5, WAIT_AT_ONCE, WAIT_AT_ONCE + 1, long]);
                         let handles = (0..n).map(|_| self.handle(o, None)).collect();
                         let all = self.rng.pct(50);
                         let tick = if self.rng.pct(70) { self.tick } else { self.advance(o) };

@@ -14,7 +14,10 @@ pub const THREADS: usize = 32;
 pub const OBJECTS: usize = 128;
 pub const HANDLES: usize = 256;
 pub const RECORDS: usize = 64;
-pub const LIST: usize = 8;
+/// the longest list of 0x25, question 5: the Rust has none.
+pub const LIST: usize = 12;
+/// the most handles that satisfied_now looks at, as the constant of that name in the Rust.
+pub const WAIT_AT_ONCE: usize = 8;
 pub const LAST_NEXT: u32 = 0xFFFF_8000;
 pub const STARVATION: u64 = 17_924_544;
 
@@ -61,7 +64,7 @@ pub enum Out {
     Thread(u32),
     Switched(bool),
     Tick(Option<u64>),
-    Satisfied(Option<([u32; 8], u32)>),
+    Satisfied(Option<([u32; WAIT_AT_ONCE], u32)>),
     Quiet(Option<(u32, bool)>),
     /// result (1 signalled, 2 timed out; index) and call kind.
     Collected(Option<(u32, u32)>, Option<&'static str>),
@@ -172,7 +175,7 @@ impl Oracle {
             Op::Call { num, regs, .. } => {
                 if !CALLS.contains(num) { return Some(3); }
                 if !running { return Some(4); }
-                if *num == 0x25 && regs[2] > 8 { return Some(5); }
+                if *num == 0x25 && regs[2] as usize > LIST { return Some(5); }
                 let words = match num {
                     0x25 if regs[2] > 0 => Some((regs[1], regs[2])),
                     0x22 if (1..=4).contains(&regs[2]) => Some((regs[1], 1)),

@@ -7,6 +7,7 @@ use Rattle.laws.specs.All.{All, all-take-more}
 use Rattle.laws.specs.Tally.{tally, tallyAll, tallyAll-more, tallyAll-none}
 use Rattle.types.specs.declared.thread.Thread.{Thread}
 use Rattle.types.specs.declared.thread.TickOption.the-variants.{NoTick}
+use Rattle.types.specs.Thread.{waitList}
 use Rattle.block.specs.Block.{decBlock}
 use Rattle.sound.specs.View.{noThread}
 use Rattle.kernel.specs.NextEvent.{wakeAfter, nextWake}
@@ -21,7 +22,7 @@ use Rattle.asked.proofs.event.look_at_threads.Tie as tie
 abbrev Inv-loop : tie.InvT-loop
 Inv-loop m₀ b best₀ i₀ m best i = (i ≤ 32)
     × ((nextWake (option best) (drop i (decBlock b .threads)) ≡ nextWake NoTick (decBlock b .threads))
-    × ((tallyAll 129 m (listsIf (drop i (decBlock b .threads))) ≡ tallyAll 129 m₀ (listsIf (decBlock b .threads))) × All (λ t. length (listIf t) ≤ 8) (take i (decBlock b .threads))))
+    × ((tallyAll 129 m (listsIf (drop i (decBlock b .threads))) ≡ tallyAll 129 m₀ (listsIf (decBlock b .threads))) × All (λ t. length (listIf t) ≤ waitList) (take i (decBlock b .threads))))
 
 abbrev μ-loop : tie.MeasureT-loop
 μ-loop m₀ b best₀ i₀ m best i = 32 - i
@@ -58,7 +59,7 @@ loop-again c = let w = c .before in
         ap (λ x. nextWake x (drop (l .i + 1) ts)) (c .wake-after .ensures ∙ ap (wakeAfter (option (l .best))) r) ∙ sym (wake-step ts (l .i) (option (l .best)) h) ∙ l .inv .1 .0,
         (
           ap (λ x. tallyAll 129 x (listsIf (drop (l .i + 1) ts))) (w .mark-list .ensures .0 ∙ ap (λ (t : Thread). tally 129 (l .m) (listIf t)) r) ∙ sym (tallyAll-more 129 listIf ts (l .i) noThread (l .m) h) ∙ l .inv .1 .1 .0,
-          all-take-more (λ t. length (listIf t) ≤ 8) ts (l .i) noThread h (l .inv .1 .1 .1) (subst (λ (t : Thread). length (listIf t) ≤ 8) r (w .mark-list .ensures .1)),
+          all-take-more (λ t. length (listIf t) ≤ waitList) ts (l .i) noThread h (l .inv .1 .1 .1) (subst (λ (t : Thread). length (listIf t) ≤ waitList) r (w .mark-list .ensures .1)),
         ),
       ),
     )

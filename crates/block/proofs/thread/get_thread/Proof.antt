@@ -5,8 +5,8 @@ use borrow.Author.Needs.{needs}
 use Rattle.block.proofs.thread.get_thread.Statement.{statement}
 use Rattle.block.proofs.thread.get_thread.Tie as tie
 
-get-ids8-requires : tie.Need-get-ids8-requires
-get-ids8-requires c κs = search needs
+get-list-requires : tie.Need-get-list-requires
+get-list-requires c κs = search needs
 
 get-words-requires : tie.Need-get-words-requires
 get-words-requires c κs = search needs
@@ -16,8 +16,8 @@ thread-of-requires c κs = search needs
 
 returns : tie.Need-returns
 unfolding decThread
-returns c = c .thread-of .ensures ∙ (λ i. threadOf (c .before .get-words .ensures i) (c .before .before .get-ids8 .ensures i))
+returns c = c .thread-of .ensures ∙ (λ i. threadOf (c .before .get-words .ensures i) (c .before .before .get-list .ensures i))
 
 pub get-thread-spec : {M : Type 1} → statement M
 get-thread-spec =
-    tie.close (tie.spec get-ids8-requires get-words-requires thread-of-requires returns)
+    tie.close (tie.spec get-list-requires get-words-requires thread-of-requires returns)

@@ -8,9 +8,10 @@ use Rattle.codec.proofs.Rows.{fill-more}
 use borrow.Author.Needs.{needs}
 use Rattle.guest.proofs.window.words_at.Statement.{statement}
 use Rattle.guest.proofs.window.words_at.Tie as tie
+use Rattle.types.specs.Thread.{waitList}
 
 abbrev Inv-loop : tie.InvT-loop
-Inv-loop window at n l₀ i₀ l i = (i ≤ n) × (length l ≡ 8) × (take i l ≡ decAll num 4 i window at)
+Inv-loop window at n l₀ i₀ l i = (i ≤ n) × (length l ≡ waitList) × (take i l ≡ decAll num 4 i window at)
 
 abbrev μ-loop : tie.MeasureT-loop
 μ-loop window at n l₀ i₀ l i = n - i

@@ -11,12 +11,13 @@ use Rattle.question.proofs.Steps.{zeros-step, places-end}
 use borrow.Author.Needs.{needs}
 use Rattle.question.proofs.threads.none_ok.Statement.{statement}
 use Rattle.question.proofs.threads.none_ok.Tie as tie
+use Rattle.types.specs.Thread.{waitList}
 
 abbrev Inv-loop : tie.InvT-loop
-Inv-loop l i₀ i = (i ≤ 8) × (places? (0 - i) (ids (drop i l)) ≡ places? 0 (ids l))
+Inv-loop l i₀ i = (i ≤ waitList) × (places? (0 - i) (ids (drop i l)) ≡ places? 0 (ids l))
 
 abbrev μ-loop : tie.MeasureT-loop
-μ-loop l i₀ i = 8 - i
+μ-loop l i₀ i = waitList - i
 
 loop-holds : tie.Need-loop-holds Inv-loop μ-loop
 loop-holds c = (search needs, simp unary-clauses)
@@ -31,7 +32,7 @@ returns : tie.Need-returns Inv-loop μ-loop
 returns c =
     let l = c .before .before .before .before .loop in
     let s = c .before .before .before .before .before in
-    let n : length (s .args .t1) ≡ 8 = omega (arith, s .good) in
+    let n : length (s .args .t1) ≡ waitList = omega (arith, s .good) in
     let h : l .i < length (s .args .t1) = omega arith in
     sym (zeros-step (s .args .t1) 0 (l .i) (record { 0 = 0 }) h ∙ and-no _ _ (ne-eqb _ 0 (c .if1 .taken))) ∙ l .inv .1
 
@@ -45,7 +46,7 @@ loop-again : tie.Need-loop-again Inv-loop μ-loop
 loop-again c =
     let l = c .before .before .before .before .loop in
     let s = c .before .before .before .before .before in
-    let n : length (s .args .t1) ≡ 8 = omega (arith, s .good) in
+    let n : length (s .args .t1) ≡ waitList = omega (arith, s .good) in
     let h : l .i < length (s .args .t1) = omega arith in
     (search needs, sym (zeros-step (s .args .t1) 0 (l .i) (record { 0 = 0 }) h ∙ and-yes _ _ (eq-eqb _ 0 (c .if1 .left))) ∙ l .inv .1)
 
@@ -53,8 +54,8 @@ returns-2 : tie.Need-returns-2 Inv-loop μ-loop
 returns-2 c =
     let l = c .before .loop in
     let s = c .before .before in
-    let n : length (s .args .t1) ≤ 8 = omega (arith, s .good) in
-    let e : l .i ≡ 8 = omega arith in
+    let n : length (s .args .t1) ≤ waitList = omega (arith, s .good) in
+    let e : l .i ≡ waitList = omega arith in
     sym (places-end (s .args .t1) 0 n) ∙ rw e at (l .inv .1)
 
 pub none-ok-spec : {M : Type 1} → statement M

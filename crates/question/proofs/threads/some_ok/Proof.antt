@@ -14,12 +14,13 @@ use Rattle.question.proofs.Steps.{fault-turn, fault-small, places-step,
 use borrow.Author.Needs.{needs}
 use Rattle.question.proofs.threads.some_ok.Statement.{statement}
 use Rattle.question.proofs.threads.some_ok.Tie as tie
+use Rattle.types.specs.Thread.{waitList}
 
 abbrev Inv-loop : tie.InvT-loop
-Inv-loop n l bad₀ i₀ bad i = (i ≤ 8) × ((bad ≤ i) × (eqb bad 0 and places? (n - i) (ids (drop i l)) ≡ places? n (ids l)))
+Inv-loop n l bad₀ i₀ bad i = (i ≤ waitList) × ((bad ≤ i) × (eqb bad 0 and places? (n - i) (ids (drop i l)) ≡ places? n (ids l)))
 
 abbrev μ-loop : tie.MeasureT-loop
-μ-loop n l bad₀ i₀ bad i = 8 - i
+μ-loop n l bad₀ i₀ bad i = waitList - i
 
 loop-holds : tie.Need-loop-holds Inv-loop μ-loop
 unfolding _and_
@@ -53,7 +54,7 @@ loop-again : tie.Need-loop-again Inv-loop μ-loop
 loop-again c =
     let l = c .before .before .before .before .loop in
     let s = c .before .before .before .before .before in
-    let n : length (s .args .t2) ≡ 8 = omega (arith, s .good) in
+    let n : length (s .args .t2) ≡ waitList = omega (arith, s .good) in
     let h : l .i < length (s .args .t2) = omega arith in
     let p = c .before .one-place-ok .result in
     let r = places? (s .args .n - (l .i + 1)) (ids (drop (l .i + 1) (s .args .t2))) in
@@ -76,8 +77,8 @@ returns-2 : tie.Need-returns-2 Inv-loop μ-loop
 returns-2 c =
     let l = c .before .before .loop in
     let s = c .before .before .before in
-    let n : length (s .args .t2) ≤ 8 = omega (arith, s .good) in
-    let e : l .i ≡ 8 = omega (arith, l .inv, c .before .loop-test .left) in
+    let n : length (s .args .t2) ≤ waitList = omega (arith, s .good) in
+    let e : l .i ≡ waitList = omega (arith, l .inv, c .before .loop-test .left) in
     sym (places-end (s .args .t2) (s .args .n) n) ∙ sym (and-yes _ _ (eq-eqb (l .bad) 0 (c .if1 .left))) ∙ rw e at (l .inv .1 .1)
 
 pub some-ok-spec : {M : Type 1} → statement M

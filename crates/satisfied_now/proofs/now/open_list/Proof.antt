@@ -6,13 +6,13 @@ use borrow.Author.Needs.{needs}
 use Rattle.codec.specs.Layout.{decAll}
 use Rattle.codec.specs.Bytes.{num}
 use Rattle.block.specs.Block.{decBlock}
-use Rattle.pass.specs.Asks.{padded, openObject}
+use Rattle.pass.specs.Asks.{waitAtOnce, padded, openObject}
 use Rattle.satisfied_now.proofs.Open.{open-more}
 use Rattle.satisfied_now.proofs.now.open_list.Statement.{statement}
 use Rattle.satisfied_now.proofs.now.open_list.Tie as tie
 
 abbrev Inv-loop : tie.InvT-loop
-Inv-loop b list n l₀ i₀ l i = (i ≤ n) × (l ≡ padded 8 (map (openObject (decBlock b)) (decAll num 4 i list 0)))
+Inv-loop b list n l₀ i₀ l i = (i ≤ n) × (l ≡ padded waitAtOnce (map (openObject (decBlock b)) (decAll num 4 i list 0)))
 
 abbrev μ-loop : tie.MeasureT-loop
 μ-loop b list n l₀ i₀ l i = n - i

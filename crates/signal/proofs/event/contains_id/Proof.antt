@@ -13,12 +13,13 @@ use Rattle.signal.proofs.Steps.{any-step, any-end}
 use borrow.Author.Needs.{needs}
 use Rattle.signal.proofs.event.contains_id.Statement.{statement}
 use Rattle.signal.proofs.event.contains_id.Tie as tie
+use Rattle.types.specs.Thread.{waitList}
 
 abbrev Inv-loop : tie.InvT-loop
-Inv-loop l o i₀ i = (i ≤ 8) × (contains (ids (drop i l)) o ≡ contains (ids l) o)
+Inv-loop l o i₀ i = (i ≤ waitList) × (contains (ids (drop i l)) o ≡ contains (ids l) o)
 
 abbrev μ-loop : tie.MeasureT-loop
-μ-loop l o i₀ i = 8 - i
+μ-loop l o i₀ i = waitList - i
 
 loop-holds : tie.Need-loop-holds Inv-loop μ-loop
 loop-holds c = (search needs, refl)
@@ -34,7 +35,7 @@ unfolding contains
 returns c =
     let l = c .before .before .before .before .loop in
     let s = c .before .before .before .before .before in
-    let n : length (s .args .t1) ≡ 8 = omega (arith, s .good) in
+    let n : length (s .args .t1) ≡ waitList = omega (arith, s .good) in
     sym (any-step {A = ObjectId} (record { 0 = 0 }) (λ (x : ObjectId). eqb (x .0) (s .args .o .0)) (λ (z : List ObjectId). contains (ids z) (s .args .o .0)) refl (λ x xs. refl) (s .args .t1) (l .i) (omega arith) ∙ or-yes _ _ (eq-eqb _ _ (c .if1 .taken))) ∙ l .inv .1
 
 add-i : tie.Need-add-i Inv-loop μ-loop
@@ -48,7 +49,7 @@ unfolding contains
 loop-again c =
     let l = c .before .before .before .before .loop in
     let s = c .before .before .before .before .before in
-    let n : length (s .args .t1) ≡ 8 = omega (arith, s .good) in
+    let n : length (s .args .t1) ≡ waitList = omega (arith, s .good) in
     (search needs, sym (any-step {A = ObjectId} (record { 0 = 0 }) (λ (x : ObjectId). eqb (x .0) (s .args .o .0)) (λ (z : List ObjectId). contains (ids z) (s .args .o .0)) refl (λ x xs. refl) (s .args .t1) (l .i) (omega arith) ∙ or-no _ _ (ne-eqb _ _ (c .if1 .left))) ∙ l .inv .1)
 
 returns-2 : tie.Need-returns-2 Inv-loop μ-loop
@@ -56,7 +57,7 @@ unfolding contains
 returns-2 c =
     let l = c .before .loop in
     let s = c .before .before in
-    let n : length (s .args .t1) ≡ 8 = omega (arith, s .good) in
+    let n : length (s .args .t1) ≡ waitList = omega (arith, s .good) in
     sym (any-end {A = ObjectId} (record { 0 = 0 }) (λ (x : ObjectId). eqb (x .0) (s .args .o .0)) (λ (z : List ObjectId). contains (ids z) (s .args .o .0)) refl (λ x xs. refl) (s .args .t1) (l .i) (omega arith)) ∙ l .inv .1
 
 pub contains-id-spec : {M : Type 1} → statement M

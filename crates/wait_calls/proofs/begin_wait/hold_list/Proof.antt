@@ -10,12 +10,13 @@ use Rattle.wait_calls.proofs.Holding.{Holding, hold-none, hold-more, ho
 use borrow.Author.Needs.{needs}
 use Rattle.wait_calls.proofs.begin_wait.hold_list.Statement.{statement}
 use Rattle.wait_calls.proofs.begin_wait.hold_list.Tie as tie
+use Rattle.types.specs.Thread.{waitList}
 
 abbrev Inv-loop : tie.InvT-loop
-Inv-loop block₀ n l i₀ block i = (i ≤ 8) × ((length block ≡ 16384) × Holding (decBlock block₀) (take n (ids l)) block (drop i (take n (ids l))))
+Inv-loop block₀ n l i₀ block i = (i ≤ waitList) × ((length block ≡ 16384) × Holding (decBlock block₀) (take n (ids l)) block (drop i (take n (ids l))))
 
 abbrev μ-loop : tie.MeasureT-loop
-μ-loop block₀ n l i₀ block i = 8 - i
+μ-loop block₀ n l i₀ block i = waitList - i
 
 loop-holds : tie.Need-loop-holds Inv-loop μ-loop
 loop-holds c = (search needs, (search needs, hold-none (c .before .args .block .now) (c .before .pre .1) _))

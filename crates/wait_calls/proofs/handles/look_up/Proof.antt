@@ -7,12 +7,13 @@ use Rattle.block.specs.Block.{decBlock}
 use Rattle.wait_calls.proofs.Looked.{Looking, looked-none, looked-all, looked-more}
 use Rattle.wait_calls.proofs.handles.look_up.Statement.{statement}
 use Rattle.wait_calls.proofs.handles.look_up.Tie as tie
+use Rattle.types.specs.Thread.{waitList}
 
 abbrev Inv-loop : tie.InvT-loop
-Inv-loop block n words l₀ unknown₀ i₀ l unknown i = (i ≤ 8) × Looking (decBlock block) words n l unknown i
+Inv-loop block n words l₀ unknown₀ i₀ l unknown i = (i ≤ waitList) × Looking (decBlock block) words n l unknown i
 
 abbrev μ-loop : tie.MeasureT-loop
-μ-loop block n words l₀ unknown₀ i₀ l unknown i = 8 - i
+μ-loop block n words l₀ unknown₀ i₀ l unknown i = waitList - i
 
 loop-holds : tie.Need-loop-holds Inv-loop μ-loop
 loop-holds c =
@@ -26,7 +27,7 @@ returns : tie.Need-returns Inv-loop μ-loop
 returns c =
     let l = c .before .before .loop in
     let a = c .before .before .before .before .args in
-    let n8 : length (a .t2) ≡ 8 = omega (arith, c .before .before .before .before .good) in
+    let n8 : length (a .t2) ≡ waitList = omega (arith, c .before .before .before .before .good) in
     let k = decBlock (a .block .now) in
     let m : length (take (a .n) (a .t2)) ≤ l .i = simp length-take (omega (arith, c .if1 .taken)) in
     let e = looked-all k (a .t2) (a .n) (l .l) (l .unknown) (l .i) (l .inv .1) m in
@@ -60,7 +61,7 @@ loop-again : tie.Need-loop-again Inv-loop μ-loop
 loop-again c =
     let l = c .before .before .before .before .before .loop in
     let a = c .before .before .before .before .before .before .before .args in
-    let n8 : length (a .t2) ≡ 8 = omega (arith, c .before .before .before .before .before .before .before .good) in
+    let n8 : length (a .t2) ≡ waitList = omega (arith, c .before .before .before .before .before .before .before .good) in
     let k = decBlock (a .block .now) in
     let e = looked-more k (a .t2) (a .n) n8 (l .l) (l .unknown) (l .i) (l .inv .1) (omega (arith, c .before .before .before .if1 .left)) (omega (arith, c .before .before .before .before .loop-test)) (c .before .before .open-object .result) (c .before .before .open-object .ensures) in
     (search needs, (e .0, c .either .ensures ∙ e .1))
@@ -69,7 +70,7 @@ returns-2 : tie.Need-returns-2 Inv-loop μ-loop
 returns-2 c =
     let l = c .before .loop in
     let a = c .before .before .before .args in
-    let n8 : length (a .t2) ≡ 8 = omega (arith, c .before .before .before .good) in
+    let n8 : length (a .t2) ≡ waitList = omega (arith, c .before .before .before .good) in
     let k = decBlock (a .block .now) in
     let m : length (take (a .n) (a .t2)) ≤ l .i = simp length-take (omega (arith, c .loop-test)) in
     let e = looked-all k (a .t2) (a .n) (l .l) (l .unknown) (l .i) (l .inv .1) m in

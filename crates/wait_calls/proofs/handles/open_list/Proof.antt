@@ -8,12 +8,13 @@ use Rattle.wait_calls.proofs.Words.{words-at, words-end, words-over}
 use Rattle.wait_calls.proofs.Opens.{Opening, open-none, open-end, open-unknown, open-more}
 use Rattle.wait_calls.proofs.handles.open_list.Statement.{statement}
 use Rattle.wait_calls.proofs.handles.open_list.Tie as tie
+use Rattle.types.specs.Thread.{waitList}
 
 abbrev Inv-loop : tie.InvT-loop
-Inv-loop block₀ n words l₀ i₀ block l i = (i ≤ 8) × ((length block ≡ 16384) × Opening (decBlock block₀) (take n words) block l i)
+Inv-loop block₀ n words l₀ i₀ block l i = (i ≤ waitList) × ((length block ≡ 16384) × Opening (decBlock block₀) (take n words) block l i)
 
 abbrev μ-loop : tie.MeasureT-loop
-μ-loop block₀ n words l₀ i₀ block l i = 8 - i
+μ-loop block₀ n words l₀ i₀ block l i = waitList - i
 
 loop-holds : tie.Need-loop-holds Inv-loop μ-loop
 loop-holds c = (search needs, (search needs, open-none (c .before .args .block .now) (c .before .pre .1 .0) _))
@@ -48,7 +49,7 @@ returns-2 : tie.Need-returns-2 Inv-loop μ-loop
 returns-2 c =
     let l = c .before .before .before .before .before .before .before .before .before .loop in
     let a = c .before .before .before .before .before .before .before .before .before .before .before .args in
-    let n8 : length (a .t2) ≡ 8 = omega (arith, c .before .before .before .before .before .before .before .before .before .before .before .good) in
+    let n8 : length (a .t2) ≡ waitList = omega (arith, c .before .before .before .before .before .before .before .before .before .before .before .good) in
     let k = decBlock (a .block .now) in
     let hs = take (a .n) (a .t2) in
     let d = words-at (a .t2) (a .n) (l .i) (c .before .before .before .before .before .before .before .if1 .left) (omega (arith, n8, c .before .before .before .before .before .before .before .before .loop-test)) in
@@ -74,7 +75,7 @@ loop-again : tie.Need-loop-again Inv-loop μ-loop
 loop-again c =
     let l = c .before .before .before .before .before .before .before .before .before .loop in
     let a = c .before .before .before .before .before .before .before .before .before .before .before .args in
-    let n8 : length (a .t2) ≡ 8 = omega (arith, c .before .before .before .before .before .before .before .before .before .before .before .good) in
+    let n8 : length (a .t2) ≡ waitList = omega (arith, c .before .before .before .before .before .before .before .before .before .before .before .good) in
     let k = decBlock (a .block .now) in
     let hs = take (a .n) (a .t2) in
     let d = words-at (a .t2) (a .n) (l .i) (c .before .before .before .before .before .before .before .if1 .left) (omega (arith, n8, c .before .before .before .before .before .before .before .before .loop-test)) in
@@ -91,7 +92,7 @@ returns-3 : tie.Need-returns-3 Inv-loop μ-loop
 returns-3 c =
     let l = c .before .loop in
     let a = c .before .before .before .args in
-    let n8 : length (a .t2) ≡ 8 = omega (arith, c .before .before .before .good) in
+    let n8 : length (a .t2) ≡ waitList = omega (arith, c .before .before .before .good) in
     let k = decBlock (a .block .now) in
     let hs = take (a .n) (a .t2) in
     open-end k hs (l .block) (l .l) (l .i) (l .inv .1 .1) (words-over (a .t2) (a .n) (l .i) (omega (arith, n8, c .loop-test)))

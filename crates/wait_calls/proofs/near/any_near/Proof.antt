@@ -5,6 +5,7 @@ use native.Mathlib.Omega.{arith}
 use lib.ListN.{take, drop}
 use Rattle.laws.specs.Logic.{or-yes, or-no}
 use Rattle.types.specs.declared.object.Slot.{Slot}
+use Rattle.types.specs.Thread.{waitList}
 use Rattle.block.specs.Block.{decBlock}
 use Rattle.sound.specs.View.{ids}
 use Rattle.object.proofs.Laws.{list-at, list-end, list-over}
@@ -13,10 +14,10 @@ use Rattle.wait_calls.proofs.near.any_near.Statement.{statement}
 use Rattle.wait_calls.proofs.near.any_near.Tie as tie
 
 abbrev Inv-loop : tie.InvT-loop
-Inv-loop block n l i₀ i = (i ≤ 8) × (anyNear (decBlock block .objects) (drop i (take n (ids l))) ≡ anyNear (decBlock block .objects) (take n (ids l)))
+Inv-loop block n l i₀ i = (i ≤ waitList) × (anyNear (decBlock block .objects) (drop i (take n (ids l))) ≡ anyNear (decBlock block .objects) (take n (ids l)))
 
 abbrev μ-loop : tie.MeasureT-loop
-μ-loop block n l i₀ i = 8 - i
+μ-loop block n l i₀ i = waitList - i
 
 loop-holds : tie.Need-loop-holds Inv-loop μ-loop
 loop-holds c = (search needs, refl)

@@ -3,6 +3,7 @@ use mathlib.Core.Bool.{false}
 use mathlib.Core.List.{[], _∷_}
 use Rattle.types.specs.declared.object.Slot.{Slot}
 use Rattle.types.specs.declared.thread.WaitSyscall.the-variants.{WaitSynchronization1}
+use Rattle.types.specs.Thread.{waitList}
 use Rattle.block.specs.Block.{decBlock}
 use Rattle.pass.specs.Signal.{isSignaled}
 use Rattle.pass.specs.Asks.{padded}
@@ -74,9 +75,9 @@ returns-4 : tie.Need-returns-4
 unfolding padded
 returns-4 c = let sig = sym (c .before .before .before .before .before .before .before .before .signaled .ensures ∙ ap (λ (x : Slot). isSignaled (decBlock (c .before .before .before .before .before .before .before .before .before .before .before .before .before .args .block .now) .threads) (x .object) (c .before .before .before .before .before .before .before .before .before .before .before .before .before .args .c)) (c .before .before .before .before .before .before .before .before .before .before .slot-at .ensures)) ∙ c .before .before .before .before .before .before .before .if1 .left in
     let a = c .before .before .before .before .before .before .before .before .before .before .before .before .before .args in
-    let v = waitOnIn (decBlock (a .block .now)) (a .c) (padded 8 (a .o .0 ∷ [])) 1 false (a .nanos .0) (a .tick .0) WaitSynchronization1 in
+    let v = waitOnIn (decBlock (a .block .now)) (a .c) (padded waitList (a .o .0 ∷ [])) 1 false (a .nanos .0) (a .tick .0) WaitSynchronization1 in
     rw (sig, sym (c .before .before .before .before .before .before .is-zero .ensures) ∙ c .before .before .before .before .before .if3 .left)
-    (leaves (a .block .now) _ _ v v refl (begun-none (a .block .now) (c .before .before .before .before .before .before .before .before .before .before .before .before .before .pre .1 .1 .0) (a .c) (padded 8 (a .o .0 ∷ [])) 1 false (a .nanos .0) (a .tick .0) WaitSynchronization1 (c .before .before .before .before .before .before .before .before .before .before .before .before .before .pre .1 .1 .1)) (c .silent .ensures) (c .before .before .before .begin-wait .ensures))
+    (leaves (a .block .now) _ _ v v refl (begun-none (a .block .now) (c .before .before .before .before .before .before .before .before .before .before .before .before .before .pre .1 .1 .0) (a .c) (padded waitList (a .o .0 ∷ [])) 1 false (a .nanos .0) (a .tick .0) WaitSynchronization1 (c .before .before .before .before .before .before .before .before .before .before .before .before .before .pre .1 .1 .1)) (c .silent .ensures) (c .before .before .before .begin-wait .ensures))
 
 pub wait-one-spec : {M : Type 1} → statement M
 wait-one-spec =

@@ -10,12 +10,13 @@ use Rattle.wait_calls.specs.Room.{met}
 use Rattle.wait_calls.proofs.Words.{words-at, words-end, words-over}
 use Rattle.wait_calls.proofs.room.met.Statement.{statement}
 use Rattle.wait_calls.proofs.room.met.Tie as tie
+use Rattle.types.specs.Thread.{waitList}
 
 abbrev Inv-loop : tie.InvT-loop
-Inv-loop block n words p i₀ i = (i ≤ 8) × (met (decBlock block .«current_thread») (decBlock block .handles) p (drop i (take n words)) ≡ met (decBlock block .«current_thread») (decBlock block .handles) p (take n words))
+Inv-loop block n words p i₀ i = (i ≤ waitList) × (met (decBlock block .«current_thread») (decBlock block .handles) p (drop i (take n words)) ≡ met (decBlock block .«current_thread») (decBlock block .handles) p (take n words))
 
 abbrev μ-loop : tie.MeasureT-loop
-μ-loop block n words p i₀ i = 8 - i
+μ-loop block n words p i₀ i = waitList - i
 
 loop-holds : tie.Need-loop-holds Inv-loop μ-loop
 loop-holds c = (search needs, refl)
@@ -41,7 +42,7 @@ unfolding met
 returns-2 c =
     let l = c .before .before .before .loop in
     let a = c .before .before .before .before .before .args in
-    let n8 : length (a .t2) ≡ 8 = omega (arith, c .before .before .before .before .before .good) in
+    let n8 : length (a .t2) ≡ waitList = omega (arith, c .before .before .before .before .before .good) in
     let h = words-at (a .t2) (a .n) (l .i) (c .before .if1 .left) (omega (arith, n8, c .before .before .loop-test)) in
     sym (pick-yes _ _ _ (eq-eqb _ _ (c .if2 .taken))) ∙ rw h at (l .inv .1)
 
@@ -53,7 +54,7 @@ unfolding met
 returns-3 c =
     let l = c .before .before .before .before .before .loop in
     let a = c .before .before .before .before .before .before .before .args in
-    let n8 : length (a .t2) ≡ 8 = omega (arith, c .before .before .before .before .before .before .before .good) in
+    let n8 : length (a .t2) ≡ waitList = omega (arith, c .before .before .before .before .before .before .before .good) in
     let h = words-at (a .t2) (a .n) (l .i) (c .before .before .before .if1 .left) (omega (arith, n8, c .before .before .before .before .loop-test)) in
     sym (pick-no _ _ _ (ne-eqb _ _ (c .before .before .if2 .left)) ∙ pick-no _ _ _ (sym (c .before .names .ensures) ∙ not-true _ (c .if3 .taken))) ∙ rw h at (l .inv .1)
 
@@ -68,7 +69,7 @@ unfolding met
 loop-again c =
     let l = c .before .before .before .before .before .loop in
     let a = c .before .before .before .before .before .before .before .args in
-    let n8 : length (a .t2) ≡ 8 = omega (arith, c .before .before .before .before .before .before .before .good) in
+    let n8 : length (a .t2) ≡ waitList = omega (arith, c .before .before .before .before .before .before .before .good) in
     let h = words-at (a .t2) (a .n) (l .i) (c .before .before .before .if1 .left) (omega (arith, n8, c .before .before .before .before .loop-test)) in
     (search needs, sym (pick-no _ _ _ (ne-eqb _ _ (c .before .before .if2 .left)) ∙ pick-yes _ _ _ (sym (c .before .names .ensures) ∙ not-false _ (c .if3 .left))) ∙ rw h at (l .inv .1))
 
@@ -77,7 +78,7 @@ unfolding met
 returns-4 c =
     let l = c .before .loop in
     let a = c .before .before .before .args in
-    let n8 : length (a .t2) ≡ 8 = omega (arith, c .before .before .before .good) in
+    let n8 : length (a .t2) ≡ waitList = omega (arith, c .before .before .before .good) in
     rw (words-over (a .t2) (a .n) (l .i) (omega (arith, n8, c .loop-test))) at (l .inv .1)
 
 pub met-spec : {M : Type 1} → statement M

@@ -6,17 +6,18 @@ use lib.Seq.{take-all}
 use native.Mathlib.Nat.{add-sub-cancel-left}
 use native.Mathlib.Omega.{arith}
 use borrow.Author.Needs.{needs}
+use Rattle.types.specs.Thread.{waitList}
 use Rattle.codec.specs.Layout.{decAll}
 use Rattle.codec.proofs.Rows.{fill-more}
 use Rattle.block.specs.Table.{decId}
-use Rattle.block.proofs.table.get_ids8.Statement.{statement}
-use Rattle.block.proofs.table.get_ids8.Tie as tie
+use Rattle.block.proofs.table.get_list.Statement.{statement}
+use Rattle.block.proofs.table.get_list.Tie as tie
 
 abbrev Inv-loop : tie.InvT-loop
-Inv-loop s at l₀ i₀ l i = (i ≤ 8) × (length l ≡ 8) × (take i l ≡ decAll decId 4 i s at)
+Inv-loop s at l₀ i₀ l i = (i ≤ waitList) × (length l ≡ waitList) × (take i l ≡ decAll decId 4 i s at)
 
 abbrev μ-loop : tie.MeasureT-loop
-μ-loop s at l₀ i₀ l i = 8 - i
+μ-loop s at l₀ i₀ l i = waitList - i
 
 no-id-requires : tie.Need-no-id-requires Inv-loop μ-loop
 no-id-requires c κs = search needs
@@ -71,12 +72,12 @@ loop-again c =
 returns : tie.Need-returns Inv-loop μ-loop
 returns c =
     let l = c .before .loop in
-    let e : l .i ≡ 8 = omega arith in
-    let f : length (l .l) ≤ 8 = omega arith in
-    sym (take-all 8 (l .l) f) ∙ (rw e at (l .inv .2))
+    let e : l .i ≡ waitList = omega arith in
+    let f : length (l .l) ≤ waitList = omega arith in
+    sym (take-all waitList (l .l) f) ∙ (rw e at (l .inv .2))
 
-pub get-ids8-spec : {M : Type 1} → statement M
-get-ids8-spec =
+pub get-list-spec : {M : Type 1} → statement M
+get-list-spec =
     tie.close
     (tie.spec
     Inv-loop
