@@ -1,4 +1,6 @@
 // Whether an object is signalled, and what a wait takes of it (`is_signaled`, `acquire`).
+#![tactic(auto)]
+
 ghost use Rattle.std.specs.Prelude.{◌≡◌, ◌+◌, ltb};
 ghost use Rattle.laws.specs.Logic.{pick, ◌or◌};
 ghost use Rattle.object.specs.Slots.{with_object};

@@ -14,7 +14,7 @@ use types::object::Waiter;
 use types::thread::{AddressOption, Thread, ThreadStatus, WaitResult};
 
 // What becomes of a record: whether it stays in the chain, and how many threads are woken after it.
-#[derive(Drop)]
+#[derive(Clone, Copy)]
 pub struct Decision {
     pub stays: bool,
     pub woken: u32,

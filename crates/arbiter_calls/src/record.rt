@@ -16,7 +16,7 @@ use types::object::Waiter;
 use units::ObjectId;
 
 // Whether a record is stored, and behind which, 0 for none and for the first of a chain.
-#[derive(Drop)]
+#[derive(Clone, Copy)]
 pub struct Room {
     pub stores: bool,
     pub last: u32,

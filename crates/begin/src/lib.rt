@@ -1,4 +1,6 @@
 // The current thread waits or sleeps (`begin_wait`, `sleep_current`).
+#![tactic(auto)]
+
 ghost use Rattle.std.specs.Prelude.{◌≡◌, ◌+◌, ◌-◌, ◌<◌};
 ghost use Rattle.pass.specs.Timers.{saturating_add};
 ghost use Rattle.pass.specs.Waits as def;

@@ -1,4 +1,6 @@
 // The state in a block of 16,384 bytes, as docs/STATE.md lays it out.
+#![tactic(auto)]
+
 pub mod context;
 pub mod record;
 pub mod slot;
@@ -12,7 +14,7 @@ use codec::Four;
 use types::kernel::Kernel;
 
 // The sixteen words of the head.
-#[derive(Drop)]
+#[derive(Clone, Copy)]
 pub struct Head {
     pub a: Four,
     pub b: Four,

@@ -10,7 +10,7 @@ use types::sync::{AddressArbiter, Event, Mutex, Semaphore, Timer};
 use units::Ticks;
 
 // An object as numbers, in the order of the block.
-#[derive(Drop)]
+#[derive(Clone, Copy)]
 pub struct ObjectWords {
     pub kind: u32,
     pub a: u32,

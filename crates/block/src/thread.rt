@@ -19,7 +19,7 @@ pub const SPARE_BYTES: usize = 160 - SPARE_AT;
 pub const SPARE_WORDS: usize = SPARE_BYTES / 4;
 
 // A thread's fields but its list, as numbers in the order of the block.
-#[derive(Drop)]
+#[derive(Clone, Copy)]
 pub struct ThreadWords {
     pub a: Four,
     pub b: Four,

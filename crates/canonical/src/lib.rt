@@ -1,5 +1,7 @@
 // Whether a block is the encoding of what it decodes to: the first part of question 2, asked of the words of the block.
 // Handle entries, arbiter records and kept objects are not looked at: any words are the encoding of what they say.
+#![tactic(auto)]
+
 pub mod head;
 pub mod slot;
 pub mod thread;

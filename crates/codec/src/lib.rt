@@ -1,15 +1,17 @@
 // Little-endian numbers in lent bytes: reading and writing words, groups of words and arrays of words.
+#![tactic(auto)]
+
 ghost use Rattle.std.specs.Prelude.{◌≡◌, [], ◌∷◌, ◌+◌, ◌*◌, ◌<◌, ◌≤◌, ◌/◌, ◌%◌, length, replicate, take, drop};
 ghost use Rattle.codec.specs.Bytes.{le, num, over, bytes, same};
 ghost use Rattle.codec.specs.Layout.{enc_all};
 ghost use Rattle.codec.specs.Groups.{two_at, two_bytes, four_at, four_bytes};
 
 // Two words, one after the other.
-#[derive(Drop)]
+#[derive(Clone, Copy)]
 pub struct Two(pub u32, pub u32);
 
 // Four words, one after the other.
-#[derive(Drop)]
+#[derive(Clone, Copy)]
 pub struct Four(pub u32, pub u32, pub u32, pub u32);
 
 // The number that four bytes say, the least first.

@@ -1,4 +1,6 @@
 // Collect, over what is lent.
+#![tactic(auto)]
+
 pub mod results;
 
 ghost use Rattle.std.specs.Prelude.{◌≡◌, [], ◌++◌, length};

@@ -1,4 +1,6 @@
 // The operation that makes a thread: its record, its row of the bank, and its number as the answer.
+#![tactic(auto)]
+
 ghost use Rattle.std.specs.Prelude.{◌≡◌, [], ◌*◌, ◌<◌, length};
 ghost use Rattle.codec.specs.Bytes.{bytes, over};
 ghost use Rattle.block.specs.Context.{enc_context};

@@ -1,2 +1,4 @@
 // The calls by number.
+#![tactic(auto)]
+
 pub mod call;

@@ -1,4 +1,6 @@
 // Timers that come due, looked for and caught up with in a block where it lies: a store by value would be copied.
+#![tactic(auto)]
+
 ghost use Rattle.std.specs.Prelude.{◌≡◌, true, false, map, ◌≤◌, length};
 ghost use Rattle.laws.specs.Logic.{◌or◌};
 ghost use Rattle.laws.specs.All.{All};

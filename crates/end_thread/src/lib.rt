@@ -1,4 +1,6 @@
 // The operation that ends a thread.
+#![tactic(auto)]
+
 ghost use Rattle.std.specs.Prelude.{◌≡◌, [], length};
 ghost use Rattle.block.specs.Block.{dec_block};
 ghost use Rattle.lent.specs.Lent.{lent, back};

@@ -1,4 +1,6 @@
 // The end of a thread in the block: its record and the head are written where they lie.
+#![tactic(auto)]
+
 ghost use Rattle.std.specs.Prelude.{◌≡◌, true, false, ◌+◌, ◌<◌, eqb, length};
 ghost use Rattle.laws.specs.Logic.{pick};
 ghost use Rattle.types.specs.Thread.{thread_flag, thread_value};

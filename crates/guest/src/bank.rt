@@ -6,7 +6,7 @@ ghost use Rattle.guest.specs.Made.{made_by, bank_made};
 use svc::Registers;
 
 // The place, the TLS slot and the status word of the thread that 0x08 would make; 0 for the other calls.
-#[derive(Drop)]
+#[derive(Clone, Copy)]
 pub struct Made {
     pub id: u32,
     pub tls: u32,

@@ -1,4 +1,6 @@
 // Guest calls on handles, in the block: `close_handle` and `duplicate_handle`, and `create_address_arbiter` (svc.rs).
+#![tactic(auto)]
+
 pub mod close;
 pub mod duplicate;
 

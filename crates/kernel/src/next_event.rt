@@ -10,7 +10,7 @@ use types::thread::{Thread, TickOption};
 use units::Ticks;
 
 // The earliest tick so far, if found is not 0. Words and no enum, since an enum that goes round a loop is copied part by part at each turn.
-#[derive(Drop)]
+#[derive(Clone, Copy)]
 pub struct Earliest {
     pub found: u64,
     pub tick: Ticks,

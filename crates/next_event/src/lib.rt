@@ -1,4 +1,6 @@
 // The operation that tells the next tick at which a pass is wanted.
+#![tactic(auto)]
+
 ghost use Rattle.std.specs.Prelude.{◌≡◌, [], length};
 ghost use Rattle.lent.specs.Lent.{lent, back};
 ghost use Rattle.lent.specs.Operations.{tick_bytes, next_event};

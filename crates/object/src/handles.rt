@@ -6,7 +6,7 @@ use crate::store;
 use types::object::{HandleTable, ObjectStore};
 
 // The table and the store after an operation on both.
-#[derive(Drop)]
+#[derive(Clone, Copy)]
 pub struct Both {
     pub table: HandleTable,
     pub store: ObjectStore,

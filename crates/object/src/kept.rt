@@ -4,7 +4,7 @@ use types::object::ObjectStore;
 use units::ObjectId;
 
 // The object that a handle names, 0 if none, and the store afterwards.
-#[derive(Drop)]
+#[derive(Clone, Copy)]
 pub struct Resolved {
     pub object: ObjectId,
     pub store: ObjectStore,

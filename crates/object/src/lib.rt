@@ -1,4 +1,6 @@
 // Objects, handles, records and kept objects (object.rs, and what mod.rs keeps of objects).
+#![tactic(auto)]
+
 pub mod handles;
 pub mod kept;
 pub mod store;

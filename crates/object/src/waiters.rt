@@ -14,7 +14,7 @@ use types::object::{KObject, Slot, Waiter};
 use types::sync::AddressArbiter;
 
 // The records, the first free one, and the first that a chain keeps.
-#[derive(Drop)]
+#[derive(Clone, Copy)]
 pub struct Links {
     pub waiters: [Waiter; 64],
     pub free: u32,
@@ -58,7 +58,7 @@ fn put_waiter(ws: [Waiter; 64], x: u32, w: Waiter) -> [Waiter; 64]
 }
 
 // The first free record, and the first that a chain keeps.
-#[derive(Drop)]
+#[derive(Clone, Copy)]
 pub struct Ends {
     pub free: u32,
     pub head: u32,
@@ -336,7 +336,7 @@ pub fn hang(ws: [Waiter; 64], last: u32, r: u32, w: Waiter) -> [Waiter; 64]
 }
 
 // Whether a chain has a record already; if not, its last record, 0 if it has none.
-#[derive(Drop)]
+#[derive(Clone, Copy)]
 pub struct ChainEnd {
     pub has: bool,
     pub last: u32,

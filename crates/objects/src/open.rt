@@ -20,7 +20,7 @@ use types::thread::ThreadOption;
 use units::{Handle, ObjectId};
 
 // The object, 0 if there is none, and what questions 7 and 8 found, 0 for nothing.
-#[derive(Drop)]
+#[derive(Clone, Copy)]
 pub struct Opened {
     pub object: ObjectId,
     pub found: u32,

@@ -1,4 +1,6 @@
 // What a call leaves. Its state goes into the block where the call ends: by value it would be copied on each way up.
+#![tactic(auto)]
+
 ghost use Rattle.std.specs.Prelude.{◌≡◌, length};
 ghost use Rattle.outcome.specs.Outcome as def;
 ghost use Rattle.outcome.specs.Findings.{found_of};
@@ -10,7 +12,7 @@ use svc::WordOption;
 use units::Handle;
 
 // What a call leaves beside the state; found is what questions 7 and 8 found, 0 for nothing.
-#[derive(Drop)]
+#[derive(Clone, Copy)]
 pub struct Outcome {
     pub found: u32,
     pub answer: u32,

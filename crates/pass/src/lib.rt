@@ -1,18 +1,20 @@
 // What waits and the pass tell (the scheduling part of mod.rs); the definitions are in specs/.
+#![tactic(auto)]
+
 use types::kernel::Kernel;
 use types::object::ObjectStore;
 use types::thread::{Thread, ThreadOption};
 use units::ObjectId;
 
 // The place in a wait's list at which it is satisfied, or none.
-#[derive(Drop)]
+#[derive(Clone, Copy)]
 pub enum IndexOption {
     NoIndex,
     SomeIndex(u32),
 }
 
 // What becomes of a blocked thread in a pass.
-#[derive(Drop)]
+#[derive(Clone, Copy)]
 pub enum Fate {
     Stays,
     // What it waited for is there; the index of its wait.
@@ -23,14 +25,14 @@ pub enum Fate {
 }
 
 // The objects and the threads, which the tries of a pass change.
-#[derive(Drop)]
+#[derive(Clone, Copy)]
 pub struct Waits {
     pub objects: ObjectStore,
     pub threads: [Thread; 32],
 }
 
 // A pass: the state after it, whose context is saved, whose is restored, and whether it switched.
-#[derive(Drop)]
+#[derive(Clone, Copy)]
 pub struct Passed {
     pub kernel: Kernel,
     pub saved: ThreadOption,
@@ -42,14 +44,14 @@ pub struct Passed {
 pub const WAIT_AT_ONCE: usize = 8;
 
 // What a wait on a list of handles would find at once: the objects, unused places 0, and where.
-#[derive(Drop)]
+#[derive(Clone, Copy)]
 pub struct Satisfied {
     pub objects: [ObjectId; WAIT_AT_ONCE],
     pub index: IndexOption,
 }
 
 // What letting go of a mutex would do without a pass.
-#[derive(Drop)]
+#[derive(Clone, Copy)]
 pub enum Release {
     NotQuiet,
     // Held more than once, it only counts down.

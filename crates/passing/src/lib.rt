@@ -1,4 +1,6 @@
 // The crate is its specs/: laws that each change of a pass keeps a state sound, and no code.
+#![tactic(auto)]
+
 pub fn no_code() -> u64 {
     0
 }

@@ -1,4 +1,6 @@
 // The first pick and the stand-in (`others_ready`, `pick_next`, `pick_other`).
+#![tactic(auto)]
+
 ghost use Rattle.std.specs.Prelude.{◌≡◌, not, ◌+◌, ◌-◌, ◌<◌, ◌≤◌, eqb, length};
 ghost use Rattle.laws.specs.Logic.{pick, ◌and◌};
 ghost use Rattle.sound.specs.Threads.{is_current};

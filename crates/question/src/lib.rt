@@ -1,5 +1,7 @@
 // Question 2 on a block that is the encoding of what it decodes to: whether the state is sound. The block is read where it lies; the
 // slots are read once, into columns of numbers.
+#![tactic(auto)]
+
 pub mod chains;
 pub mod faults;
 pub mod handles;

@@ -1,4 +1,6 @@
 // The operation that tells what letting go of a mutex would do without a pass.
+#![tactic(auto)]
+
 pub mod quiet;
 
 ghost use Rattle.std.specs.Prelude.{◌≡◌, [], length};

@@ -1,5 +1,7 @@
 // An object let go in the block where it lies (`release` of object.rs). A block in mid-operation may have counts that are not
 // right yet, so it need not be sound here, only the encoding of a state.
+#![tactic(auto)]
+
 ghost use Rattle.std.specs.Prelude.{◌≡◌, false, ◌-◌, ◌<◌, length, take};
 ghost use Rattle.laws.specs.Walk.{walk};
 ghost use Rattle.block.specs.Block.{dec_block};

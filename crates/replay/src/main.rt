@@ -1,5 +1,7 @@
 // Replays a recorded sample of what the original answers on the operations of the exports. The record is the program's standard input: for each
 // operation the number that the original gave, and a hash of the answer slice and of everything lent after it.
+#![tactic(auto)]
+
 mod calls;
 mod replay;
 

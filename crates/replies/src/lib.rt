@@ -1,11 +1,13 @@
 // The operations of the exports on what a line of the record says, but guest calls. Words 1 and 2 of a line are the number and the hash
 // that the original gave, the arguments stand from word 3 on, a tick as its upper and its lower half.
+#![tactic(auto)]
+
 use sample::memory::least;
 use sample::{fnv, memory};
 use units::{Handle, Ticks};
 
 // What an operation returned, and the hash of the answer slice that it was lent.
-#[derive(Drop)]
+#[derive(Clone, Copy)]
 pub struct Answer(pub u32, pub u32);
 
 pub fn tick(upper: u32, lower: u32) -> Ticks {

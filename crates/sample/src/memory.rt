@@ -63,7 +63,7 @@ pub fn set_word(
 }
 
 // Where the guest window lies and how long it is.
-#[derive(Drop)]
+#[derive(Clone, Copy)]
 pub struct Window(pub u32, pub u32);
 
 // w BASE LENGTH: the host lends another window. A sequence starts with none.

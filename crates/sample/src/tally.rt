@@ -1,6 +1,6 @@
 // What was replayed, and what differed.
 
-#[derive(Drop)]
+#[derive(Clone, Copy)]
 pub struct Tally {
     pub lines: u32,
     pub operations: u32,

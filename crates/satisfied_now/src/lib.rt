@@ -1,4 +1,6 @@
 // The operation that tells what a wait on a list of handles would find at once.
+#![tactic(auto)]
+
 pub mod now;
 
 ghost use Rattle.std.specs.Prelude.{◌≡◌, [], length};

@@ -1,4 +1,6 @@
 // The operation that makes a pass.
+#![tactic(auto)]
+
 ghost use Rattle.std.specs.Prelude.{◌≡◌, true, false, [], ◌+◌, ◌*◌, ◌<◌, length};
 ghost use Rattle.laws.specs.Logic.{pick};
 ghost use Rattle.codec.specs.Bytes.{bytes};

@@ -119,7 +119,7 @@ fn switches(same: bool, c: ThreadOption, n: ThreadOption) -> bool
 
 // What a pass chooses: the threads after it, who runs, the relief, whose context is saved, whose is restored, and
 // whether it switched.
-#[derive(Drop)]
+#[derive(Clone, Copy)]
 pub struct Turned {
     pub threads: [Thread; 32],
     pub current: ThreadOption,

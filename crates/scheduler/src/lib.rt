@@ -1,3 +1,5 @@
 // The pass (`schedule`).
+#![tactic(auto)]
+
 pub mod choose;
 pub mod run;

@@ -1,4 +1,6 @@
 // Signals, pulses and timers (the part of mod.rs that changes what an object says).
+#![tactic(auto)]
+
 pub mod catch_up;
 pub mod event;
 pub mod pulse;

@@ -1,4 +1,6 @@
 // Making a thread in the block: its record and the head are written where they lie.
+#![tactic(auto)]
+
 mod forget;
 
 ghost use Rattle.std.specs.Prelude.{◌≡◌, true, ◌<◌, ◌≤◌, eqb, leb, length};

@@ -1,10 +1,12 @@
 // What guest calls are given and what they leave (svc.rs); the definitions are in specs/.
+#![tactic(auto)]
+
 pub mod read;
 
 use types::kernel::Kernel;
 
 // The first six registers, as a call reads them.
-#[derive(Drop)]
+#[derive(Clone, Copy)]
 pub struct Registers {
     pub r0: u32,
     pub r1: u32,
@@ -15,7 +17,7 @@ pub struct Registers {
 }
 
 // A row of the call table: the registers that a call reads and those that it may write, bit i for register i.
-#[derive(Drop)]
+#[derive(Clone, Copy)]
 pub struct CallRow {
     pub number: u32,
     pub reads: u32,
@@ -23,14 +25,14 @@ pub struct CallRow {
 }
 
 // A word that is written, or none.
-#[derive(Drop)]
+#[derive(Clone, Copy)]
 pub enum WordOption {
     NoWord,
     SomeWord(u32),
 }
 
 // What a call leaves: the state, the answer, the registers it writes, and the word it writes at its address.
-#[derive(Drop)]
+#[derive(Clone, Copy)]
 pub struct Served {
     pub kernel: Kernel,
     pub answer: u32,

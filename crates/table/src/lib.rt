@@ -1,5 +1,7 @@
 // The call table: for each call number the registers that it reads and those that it may write. Beside it the questions that are a
 // call's own, and the registers by mask.
+#![tactic(auto)]
+
 pub mod questions;
 pub mod registers;
 

@@ -1,4 +1,6 @@
 // What a wait that is satisfied takes of its objects, in the block where it lies (`acquire` of mod.rs).
+#![tactic(auto)]
+
 ghost use Rattle.std.specs.Prelude.{◌≡◌, true, false, length, take};
 ghost use Rattle.block.specs.Block.{dec_block};
 ghost use Rattle.sound.specs.View.{ids, object_at};

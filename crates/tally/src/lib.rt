@@ -1,4 +1,6 @@
 // Counting into an array: how often each number is named.
+#![tactic(auto)]
+
 pub mod columns;
 pub mod place;
 

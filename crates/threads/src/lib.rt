@@ -1,4 +1,6 @@
 // Guest calls on threads, in the block.
+#![tactic(auto)]
+
 pub mod create;
 pub mod exit;
 pub mod priority;

@@ -1,4 +1,6 @@
 // The calls on timers, in the block where it lies.
+#![tactic(auto)]
+
 pub mod caught;
 mod set;
 pub mod timers;

@@ -1,5 +1,7 @@
 // What a pass does before it chooses (`fire_timers`, `try_satisfy_wait` for each thread by number, the end of pulses), in the
 // block where it lies.
+#![tactic(auto)]
+
 mod fate;
 mod slots;
 

@@ -2,7 +2,7 @@
 use crate::object::{HandleTable, ObjectStore};
 use crate::thread::{Thread, ThreadOption};
 
-#[derive(Drop)]
+#[derive(Clone, Copy)]
 pub struct Kernel {
     // The status word that a new thread starts with.
     pub status_word: u32,

@@ -1,4 +1,6 @@
 // The kernel's state by value, in the original's names.
+#![tactic(auto)]
+
 pub mod kernel;
 pub mod object;
 pub mod sync;

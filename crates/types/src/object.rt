@@ -6,7 +6,7 @@ ghost use Rattle.types.specs.Tests.{free?, mutex?, timer?};
 use crate::sync::{AddressArbiter, Event, Mutex, Semaphore, Timer};
 use units::{Handle, ObjectId};
 
-#[derive(Drop)]
+#[derive(Clone, Copy)]
 pub enum KObject {
     // A dead slot, with the next of the free chain.
     Free(u32),
@@ -21,7 +21,7 @@ pub enum KObject {
     ResourceLimit,
 }
 
-#[derive(Drop)]
+#[derive(Clone, Copy)]
 pub struct Slot {
     pub object: KObject,
     pub refcount: u32,
@@ -30,7 +30,7 @@ pub struct Slot {
 }
 
 // A thread parked at an address, in the chain of an arbiter or in the free one.
-#[derive(Drop)]
+#[derive(Clone, Copy)]
 pub struct Waiter {
     pub thread: u32,
     pub address: u32,
@@ -38,7 +38,7 @@ pub struct Waiter {
 }
 
 // The objects, and what is kept of them besides handles and wait lists.
-#[derive(Drop)]
+#[derive(Clone, Copy)]
 pub struct ObjectStore {
     pub slots: [Slot; 128],
     // The free chain's first slot.
@@ -54,13 +54,13 @@ pub struct ObjectStore {
     pub overflow: bool,
 }
 
-#[derive(Drop)]
+#[derive(Clone, Copy)]
 pub struct HandleEntry {
     pub handle: Handle,
     pub object: ObjectId,
 }
 
-#[derive(Drop)]
+#[derive(Clone, Copy)]
 pub struct HandleTable {
     // The first count are open, in rising order; the rest are 0.
     pub entries: [HandleEntry; 256],

@@ -6,7 +6,7 @@ use crate::thread::{ThreadOption, TickOption};
 use units::Ticks;
 
 // How an event or a timer behaves once a waiter picks it up.
-#[derive(Drop)]
+#[derive(Clone, Copy)]
 pub enum ResetType {
     // Releases one waiter and clears itself.
     OneShot,
@@ -16,13 +16,13 @@ pub enum ResetType {
     Pulse,
 }
 
-#[derive(Drop)]
+#[derive(Clone, Copy)]
 pub struct Event {
     pub reset_type: ResetType,
     pub signaled: bool,
 }
 
-#[derive(Drop)]
+#[derive(Clone, Copy)]
 pub struct Mutex {
     pub owner: ThreadOption,
     // How many times the owner has taken it.
@@ -30,13 +30,13 @@ pub struct Mutex {
 }
 
 // Counts are signed words, in two's complement.
-#[derive(Drop)]
+#[derive(Clone, Copy)]
 pub struct Semaphore {
     pub count: u32,
     pub max_count: u32,
 }
 
-#[derive(Drop)]
+#[derive(Clone, Copy)]
 pub struct Timer {
     pub reset_type: ResetType,
     pub signaled: bool,
@@ -46,14 +46,14 @@ pub struct Timer {
     pub interval: Ticks,
 }
 
-#[derive(Drop)]
+#[derive(Clone, Copy)]
 pub struct AddressArbiter {
     // The first record of its chain, in order of arrival; 0 ends the chain.
     pub waiters: u32,
 }
 
 // What ArbitrateAddress can do.
-#[derive(Drop)]
+#[derive(Clone, Copy)]
 pub enum ArbitrationType {
     Signal,
     WaitIfLessThan,
@@ -62,7 +62,7 @@ pub enum ArbitrationType {
     DecrementAndWaitIfLessThanWithTimeout,
 }
 
-#[derive(Drop)]
+#[derive(Clone, Copy)]
 pub enum ArbitrationOption {
     NoArbitration,
     SomeArbitration(ArbitrationType),

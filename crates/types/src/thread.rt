@@ -11,27 +11,27 @@ pub const WAIT_LIST: usize = 12;
 pub const WAIT_COUNT: u32 = WAIT_LIST as u32;
 
 // A thread number, or none.
-#[derive(Drop)]
+#[derive(Clone, Copy)]
 pub enum ThreadOption {
     NoThread,
     SomeThread(u32),
 }
 
 // A tick, or none.
-#[derive(Drop)]
+#[derive(Clone, Copy)]
 pub enum TickOption {
     NoTick,
     SomeTick(Ticks),
 }
 
 // A guest address, or none.
-#[derive(Drop)]
+#[derive(Clone, Copy)]
 pub enum AddressOption {
     NoAddress,
     SomeAddress(u32),
 }
 
-#[derive(Drop)]
+#[derive(Clone, Copy)]
 pub enum ThreadStatus {
     Dead,
     Running,
@@ -47,7 +47,7 @@ pub enum ThreadStatus {
 }
 
 // Why a blocked thread woke up, where its syscall has not collected it yet.
-#[derive(Drop)]
+#[derive(Clone, Copy)]
 pub enum WaitResult {
     NoResult,
     // The wait succeeded, by the object at this index of its list.
@@ -56,7 +56,7 @@ pub enum WaitResult {
 }
 
 // The syscall that waits for that result.
-#[derive(Drop)]
+#[derive(Clone, Copy)]
 pub enum WaitSyscall {
     NoSyscall,
     WaitSynchronization1,
@@ -65,7 +65,7 @@ pub enum WaitSyscall {
     SleepThread,
 }
 
-#[derive(Drop)]
+#[derive(Clone, Copy)]
 pub struct Thread {
     pub status: ThreadStatus,
     // 0 is the most urgent, 63 the least.
@@ -93,7 +93,7 @@ pub struct Thread {
 }
 
 // All that is saved across a context switch.
-#[derive(Drop)]
+#[derive(Clone, Copy)]
 pub struct ThreadContext {
     pub regs: [u32; 16],
     pub cpsr: u32,

@@ -1,22 +1,24 @@
 // Units: numbers that must not be mixed up have types of their own.
+#![tactic(auto)]
+
 ghost use Rattle.std.specs.Prelude.{◌≡◌, ◌+◌, ◌*◌, eqb, ltb};
 ghost use Rattle.units.specs.Ticks.{nanos_to_ticks};
 
 // Nanoseconds, as guest calls give times. The number is private to this crate: no other way leads from it to ticks than
 // nanos_to_ticks.
-#[derive(Drop)]
+#[derive(Clone, Copy)]
 pub struct Nanos(u64);
 
 // Ticks of the 268,111,856 Hz clock.
-#[derive(Drop)]
+#[derive(Clone, Copy)]
 pub struct Ticks(pub u64);
 
 // The number of an object: its slot plus 1. 0 is no object.
-#[derive(Drop)]
+#[derive(Clone, Copy)]
 pub struct ObjectId(pub u32);
 
 // A handle that a guest holds.
-#[derive(Drop)]
+#[derive(Clone, Copy)]
 pub struct Handle(pub u32);
 
 // Two words as nanoseconds, the low one first.

@@ -1,4 +1,6 @@
 // The place and the TLS slot that a new thread gets, looked for in a block where it lies (`ended_thread`, `allocate_tls`).
+#![tactic(auto)]
+
 ghost use Rattle.std.specs.Prelude.{◌≡◌, ◌<◌, ◌≤◌, length};
 ghost use Rattle.laws.specs.Logic.{◌and◌};
 ghost use Rattle.laws.specs.Tally.{tally};

@@ -1,4 +1,6 @@
 // What satisfies a wait, read from the block where it lies (the looking part of `try_satisfy_wait`, mod.rs).
+#![tactic(auto)]
+
 ghost use Rattle.std.specs.Prelude.{◌≡◌, true, length, take};
 ghost use Rattle.types.specs.Thread.{is_dead};
 ghost use Rattle.block.specs.Block.{dec_block};

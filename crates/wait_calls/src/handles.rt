@@ -15,7 +15,7 @@ use types::thread::WAIT_LIST;
 use units::{Handle, ObjectId};
 
 // The objects of a list of handles, and whether every handle names one.
-#[derive(Drop)]
+#[derive(Clone, Copy)]
 pub struct Opened {
     pub objects: [ObjectId; WAIT_LIST],
     pub known: bool,

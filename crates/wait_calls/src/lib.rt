@@ -1,4 +1,6 @@
 // The calls that wait on objects, in the block where it lies.
+#![tactic(auto)]
+
 pub mod begin_wait;
 pub mod handles;
 pub mod many;
