@@ -8,7 +8,7 @@ use native.Mathlib.Omega.{arith}
 use mir.Val.{bool_byte}
 use lib.Dec.{eqb}
 use lib.ListN.{length, take, drop, get_or, replicate, length-drop}
-use lib.Seq.{take_at_lem, drop_at, drop-drop, take-add, length-take-le}
+use lib.Seq.{take_at, drop_at, drop-drop, take-add, length-take-le}
 use Rattle.laws.specs.All.{All}
 use Rattle.codec.specs.Bytes.{num, bytes, le}
 use Rattle.codec.specs.Layout.{enc_as, dec_as, enc_all, dec_all}
@@ -99,7 +99,7 @@ drop-next s at m xs post d l = sym (drop-drop m at s) ∙ ap (drop m) d ∙ drop
 
 -- a number
 pub word_at : (w v : ℕ) (s : List ℕ) (at : ℕ) (post : List ℕ) → drop at s ≡ bytes w v ++ post → v < 256 ^ w → le w s at ≡ v
-word_at w v s at post d h = rw (d, take_at_lem (bytes w v) post w (length-bytes w v)) (num-bytes w v h)
+word_at w v s at post d h = rw (d, take_at (bytes w v) post w (length-bytes w v)) (num-bytes w v h)
 
 -- the bytes of the number that stands there
 pub word-whole : (w : ℕ) (s : List ℕ) (at : ℕ) → Bytes s → at + w ≤ length s → bytes w (le w s at) ≡ take w (drop at s)
@@ -123,7 +123,7 @@ module _ {A : Type 0} (enc : A → List ℕ) (dec : List ℕ → A) (size : ℕ)
       let i = all_back n xs post (omega arith) a.1 in
       rw (
         append_assoc,
-        take_at_lem (enc x) (enc_all enc xs ++ post) size (sized x),
+        take_at (enc x) (enc_all enc xs ++ post) size (sized x),
         a.0,
         f,
         ← dec_all-drop enc dec size n (enc x ++ (enc_all enc xs ++ post)) size 0,

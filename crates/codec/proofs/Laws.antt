@@ -7,7 +7,7 @@ use native.Mathlib.Nat.{suc-add, zero-add, div-one, div-div-eq-div-mul, add-zero
 use native.Mathlib.Numerals.{add-one}
 use native.Mathlib.Omega.{arith}
 use lib.ListN.{length, take, drop, get_or, set, length-append, length-take, length-drop, length-set, take-append-drop, drop_of_length-le}
-use lib.Seq.{drop-cons, take_at_lem, drop_at, drop-drop, take-add, take-suc-set, drop-set-lt, length-take-le}
+use lib.Seq.{drop-cons, take_at, drop_at, drop-drop, take-add, take-suc-set, drop-set-lt, length-take-le}
 use Rattle.codec.specs.Bytes.{num, le, bytes, over}
 
 -- n elements from at on, one by one
@@ -42,7 +42,7 @@ length_over b at xs h = simp (length-append, length-take, length-drop) (omega ar
 
 pub take-over : (b : List ℕ) (at : ℕ) (xs : List ℕ) → at ≤ length b → take (at + length xs) (over b at xs) ≡ take at b ++ xs
 take-over b at xs h =
-    rw (← append_assoc) (take_at_lem (take at b ++ xs) _ (at + length xs) (simp (length-append, length-take) (omega arith)))
+    rw (← append_assoc) (take_at (take at b ++ xs) _ (at + length xs) (simp (length-append, length-take) (omega arith)))
 
 pub drop-over : (b : List ℕ) (at : ℕ) (xs : List ℕ) (n : ℕ) → at ≤ length b
     → drop (at + length xs + n) (over b at xs) ≡ drop (at + length xs + n) b
