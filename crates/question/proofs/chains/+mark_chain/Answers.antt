@@ -24,7 +24,7 @@ returns-then-n-at t c =
     record { value = w.0; m_after = c.bump_at.ensures ∙ w.1 }
 
 pub mark_chain-requires : goal.mark_chain-requires
-mark_chain-requires t c = (omega arith, c.requires.n_bound)
+mark_chain-requires t c = (omega arith, (c.requires.n_bound, c.requires.nx_len))
 
 pub returns : goal.returns
 returns t c =
