@@ -46,8 +46,6 @@ fit_at [] (v ∷ vs) f k = elim f [ ]
 fit_at (w ∷ ws) [] f k = elim f [ ]
 fit_at (w ∷ ws) (v ∷ vs) f zero = f.0
 fit_at (w ∷ ws) (v ∷ vs) f (suc k) = fit_at ws vs f.1 k
-fit_at [] (v ∷ vs) f k = elim f [ ]
-fit_at (w ∷ ws) [] f k = elim f [ ]
 
 pub all_dec : {A : Type 0} (P : A → Type 0) (dec : List ℕ → A) (size n : ℕ) (s : List ℕ) (at : ℕ) → ((t : List ℕ) → Bytes t → P (dec t)) → Bytes s
     → All P (dec_all dec size n s at)
