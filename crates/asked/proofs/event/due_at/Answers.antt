@@ -1,0 +1,16 @@
+use mathlib.Core.Path.{ap, ◌∙◌}
+use borrow.Author.Tests.{not-true, not-false}
+use Rattle.types.specs.declared.object.Slot.{Slot}
+use Rattle.kernel.specs.NextEvent.{earlier, due_of}
+use Rattle.kernel.specs.Marks.{option}
+use Rattle.due.proofs.Looked.{slot_is}
+use borrow.Author.Rules.{rules}
+use Rattle.asked.proofs.event.due_at.Goals as goal
+
+pub returns-then-not-waited : goal.returns-then-not-waited
+returns-then-not-waited c = rw (c.if-not-waited.true)
+
+pub returns : goal.returns
+returns c = let a = c.args in
+    rw (c.if-not-waited.false)
+    (c.earlier_option.ensures ∙ ap (earlier (option a.best)) (c.due_of.ensures ∙ ap (λ (x : Slot). due_of x.object) (c.slot_at-s.ensures ∙ slot_is a.b.now a.i c.requires.i_bound)))

@@ -1,0 +1,5 @@
+use borrow.Author.Rules.{rules}
+use Rattle.ending.proofs.new_head.Goals as goal
+
+pub returns : goal.returns
+returns c = rw (c.thread_value-value.ensures, c.thread_flag-flag.ensures)

@@ -1,0 +1,27 @@
+use mathlib.Core.Path.{◌≡◌}
+use Prim.Native.Nat.{◌-◌, ◌<◌, ◌≤◌}
+use native.Mathlib.Omega.{arith}
+use lib.ListN.{length, take}
+use Rattle.codec.specs.Bytes.{num}
+use Rattle.codec.specs.Layout.{dec_all}
+use Rattle.codec.proofs.Rows.{fill_more}
+use borrow.Author.Rules.{rules}
+use Rattle.types.specs.Thread.{wait_list}
+use Rattle.guest.proofs.window.words_at.Goals as goal
+
+pub loop-i-init : goal.loop-i-init
+unfolding dec_all
+loop-i-init c = search rules
+
+pub loop-i-preserved : goal.loop-i-preserved
+loop-i-preserved c =
+    let a = c.args in
+    let l = c.loop-i in
+    let h : l.i < length l.l = omega arith in
+    (search rules, search rules, cc (fill_more num 4 l.i a.window.now a.at l.l h l.invariant.2))
+
+pub returns : goal.returns
+returns c =
+    let l = c.loop-i in
+    let e : l.i ≡ c.args.n = omega arith in
+    rw e at l.invariant.2

@@ -1,0 +1,42 @@
+use mathlib.Core.Path.{refl, ◌∙◌}
+use borrow.Author.Tests.{eq-eqb, ne_eqb, not-true, not-false}
+use mathlib.Core.List.{[]}
+use Rattle.laws.specs.Logic.{and_no, and_yes, true-and}
+use Rattle.pass.specs.Asks.{quiet_release}
+use Rattle.lent.specs.Lent.{lent}
+use Rattle.lent.specs.Operations.{release_bytes}
+use Rattle.lent.specs.Operations as operation
+use Rattle.lent.proofs.Cases.{inspect-1, inspect-2, inspect-8, inspect-0}
+use borrow.Author.Rules.{rules}
+use Rattle.quiet_release.proofs.operate.Goals as goal
+
+pub returns-then-block-ne16384 : goal.returns-then-block-ne16384
+unfolding operation.quiet_release
+returns-then-block-ne16384 c =
+    let a = c.args in
+    inspect-1 _ (λ k. release_bytes (quiet_release k a.handle.0 a.tick.0)) (lent a.block.now [] [] [] a.answer.now) (and_no _ _ (ne_eqb _ 16384 c.if-block-ne16384.true))
+
+pub returns-then-answer-ne12 : goal.returns-then-answer-ne12
+unfolding operation.quiet_release
+returns-then-answer-ne12 c =
+    let a = c.args in
+    inspect-1 _ (λ k. release_bytes (quiet_release k a.handle.0 a.tick.0)) (lent a.block.now [] [] [] a.answer.now) (and_yes _ _ (eq-eqb _ 16384 c.if-block-ne16384.false) ∙ ne_eqb _ 12 c.if-answer-ne12.true)
+
+pub returns-then-not-block_ok : goal.returns-then-not-block_ok
+unfolding operation.quiet_release
+returns-then-not-block_ok c =
+    let a = c.args in
+    inspect-2 _ (λ k. release_bytes (quiet_release k a.handle.0 a.tick.0)) (lent a.block.now [] [] [] a.answer.now) (true-and _ _ (eq-eqb _ 16384 c.if-block-ne16384.false) (eq-eqb _ 12 c.if-answer-ne12.false)) _ refl _ c.block_ok.ensures (c.if-not-block_ok.true)
+
+pub returns-then-out_of_handles : goal.returns-then-out_of_handles
+unfolding operation.quiet_release
+returns-then-out_of_handles c =
+    let a = c.args in
+    inspect-8 _ (λ k. release_bytes (quiet_release k a.handle.0 a.tick.0)) (lent a.block.now [] [] [] a.answer.now) (true-and _ _ (eq-eqb _ 16384 c.if-block-ne16384.false) (eq-eqb _ 12 c.if-answer-ne12.false)) _ refl _ c.block_ok.ensures (c.if-not-block_ok.false) _ c.out_of_handles.ensures c.if-out_of_handles.true
+
+pub returns : goal.returns
+unfolding operation.quiet_release
+returns c =
+    let a = c.args in
+    rw (c.put_release.ensures, c.quiet_release.ensures)
+    (inspect-0 _ (λ k. release_bytes (quiet_release k a.handle.0 a.tick.0)) (lent a.block.now [] [] [] a.answer.now) (true-and _ _ (eq-eqb _ 16384 c.if-block-ne16384.false) (eq-eqb _ 12 c.if-answer-ne12.false)) _ refl _ c.block_ok.ensures (c.if-not-block_ok.false) _ c.out_of_handles.ensures c.if-out_of_handles.false)

@@ -1,0 +1,5 @@
+use borrow.Author.Rules.{rules}
+use Rattle.quiet_release.proofs.quiet.not_waiting.Goals as goal
+
+pub returns : goal.returns
+returns c = rw c.contains_id.ensures

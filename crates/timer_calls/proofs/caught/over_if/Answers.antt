@@ -1,0 +1,11 @@
+use mathlib.Core.Path.{sym, ap, ◌∙◌}
+use borrow.Author.Tests.{not-true}
+use Rattle.types.specs.declared.kernel.Kernel.{Kernel}
+use Rattle.due.proofs.Caught.{none-due}
+use Rattle.timer_calls.proofs.Found.{down}
+use borrow.Author.Rules.{rules}
+use Rattle.timer_calls.proofs.caught.over_if.Goals as goal
+
+pub returns-then-not-fires : goal.returns-then-not-fires
+returns-then-not-fires c = let b = c.args.block.now in
+    sym (ap (λ (k : Kernel). k.objects.overflow) (none-due b c.args.tick.0 (sym c.requires.fires_value ∙ c.if-not-fires.true)) ∙ (down b).1)

@@ -1,0 +1,23 @@
+use borrow.Author.Rules.{rules}
+use Rattle.timer_calls.proofs.set.cancelled.Goals as goal
+
+pub returns-in-Free : goal.returns-in-Free
+returns-in-Free c = rw c.in-Free.is
+
+pub returns-in-Thread : goal.returns-in-Thread
+returns-in-Thread c = rw c.in-Thread.is
+
+pub returns-in-Event : goal.returns-in-Event
+returns-in-Event c = rw c.in-Event.is
+
+pub returns-in-Mutex : goal.returns-in-Mutex
+returns-in-Mutex c = rw c.in-Mutex.is
+
+pub returns-in-Semaphore : goal.returns-in-Semaphore
+returns-in-Semaphore c = rw c.in-Semaphore.is
+
+pub returns-in-Timer : goal.returns-in-Timer
+returns-in-Timer c = rw (c.in-Timer.is, c.stopped.ensures)
+
+pub returns-in-AddressArbiter : goal.returns-in-AddressArbiter
+returns-in-AddressArbiter c = rw c.in-AddressArbiter.is

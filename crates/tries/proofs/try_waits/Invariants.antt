@@ -1,0 +1,16 @@
+use mathlib.Core.Path.{◌≡◌, refl, sym, ap, ◌∙◌}
+use mathlib.Core.Bool.{true≢false}
+use Prim.Native.Nat.{◌-◌, ◌≤◌}
+use native.Mathlib.Omega.{arith}
+use lib.ListN.{length}
+use Rattle.types.specs.declared.kernel.Kernel.{Kernel}
+use Rattle.block.specs.Block.{dec_block}
+use Rattle.tries.proofs.Turns.{none_over, Trying, try_more, try_over, try_end, fires-over, tried-over, tried-is}
+use borrow.Author.Rules.{rules}
+use Rattle.tries.proofs.try_waits.Given as goal
+
+abbrev pub invariant-loop-i : goal.invariant-loop-i
+invariant-loop-i l = (l.i ≤ 32) × ((length l.block ≡ 16384) × Trying (dec_block l.initial.block) l.tick.0 l.i l.block)
+
+abbrev pub decreases-loop-i : goal.decreases-loop-i
+decreases-loop-i l = 32 - l.i

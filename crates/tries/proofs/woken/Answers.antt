@@ -1,0 +1,7 @@
+use mathlib.Core.Path.{◌∙◌}
+use Prim.Native.Nat.{◌-◌}
+use borrow.Author.Rules.{rules}
+use Rattle.tries.proofs.woken.Goals as goal
+
+pub returns : goal.returns
+returns c = c.with_status.ensures ∙ rw (c.with_result-d.ensures, c.without_wait-c.ensures)
