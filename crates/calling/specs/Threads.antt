@@ -30,7 +30,7 @@ use Rattle.soundness.specs.Slots.{pick-both}
 use Rattle.soundness.specs.Threads.{thread-same}
 use Rattle.soundness.specs.Whole.{Parts, sound-parts, parts-sound}
 use Rattle.soundness.specs.Creates.{create_thread-parts}
-use Rattle.soundness.specs.Ends.{end_thread-sound}
+use Rattle.soundness.proofs.Ends.{end_thread-sound}
 use Rattle.passing.specs.Alike.{store-parts}
 use Rattle.passing.specs.Threads.{live-used, run-parts}
 use Rattle.passing.specs.Picks.{Runs, running_runs}

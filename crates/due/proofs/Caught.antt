@@ -13,7 +13,8 @@ use Rattle.types.specs.Thread.{wait_list}
 use Rattle.block.specs.Block.{enc_block, dec_block}
 use Rattle.block.proofs.Fits.{block_back}
 use Rattle.sound.specs.Sound.{Sound}
-use Rattle.sound.specs.Question.{sound?, t_block, encoded-sound}
+use Rattle.sound.specs.Question.{sound?}
+use Rattle.sound.proofs.Question.{t_block, encoded-sound}
 use Rattle.object.specs.Slots.{with_slots}
 use Rattle.pass.specs.Signal.{with_overflow}
 use Rattle.pass.specs.Timers.{fired_slot, any_over, fire_timers, timer_due, catch_up_timers}

@@ -12,13 +12,14 @@ use Rattle.block.specs.Block.{enc_block, dec_block}
 use Rattle.sound.specs.View.{thread_at}
 use Rattle.block.proofs.Fits.{block_back}
 use Rattle.sound.specs.Sound.{Sound}
-use Rattle.sound.specs.Question.{sound?, t_block, encoded-sound}
+use Rattle.sound.specs.Question.{sound?}
+use Rattle.sound.proofs.Question.{t_block, encoded-sound}
 use Rattle.kernel.specs.Fresh.{fresh}
 use Rattle.kernel.specs.NextEvent as kernel
 use Rattle.kernel.proofs.FreshSound.{fresh-sound}
 use Rattle.thread.specs.Threads as thread
 use Rattle.soundness.specs.Creates.{create_thread-sound}
-use Rattle.soundness.specs.Ends.{end_thread-sound}
+use Rattle.soundness.proofs.Ends.{end_thread-sound}
 use Rattle.pass.specs.Schedule as pass
 use Rattle.pass.specs.Asks as asks
 use Rattle.passing.specs.Pass.{schedule-sound}

@@ -20,7 +20,8 @@ use Rattle.sound.specs.Tls.{held, below?, tls?}
 use Rattle.sound.specs.Handles.{no_entries?, rising?}
 use Rattle.sound.specs.Objects.{names, kept_names, held?, up_to128, kept_in?, kept?, contents?}
 use Rattle.sound.specs.Records.{has?, chain?, blanks?, chained?, records?}
-use Rattle.sound.specs.Sound.{state?, Sound, t-sound}
+use Rattle.sound.specs.Sound.{state?, Sound}
+use Rattle.sound.proofs.Sound.{t-sound}
 use Rattle.kernel.specs.Fresh.{in_row, free_slot, free_slots, free_waiter, free_waiters, blank_thread, fresh}
 use Rattle.types.specs.Thread.{wait_list}
 

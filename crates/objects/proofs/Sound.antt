@@ -10,7 +10,8 @@ use Rattle.types.specs.declared.kernel.Kernel.{Kernel}
 use Rattle.block.specs.Block.{dec_block}
 use Rattle.block.proofs.Fits.{block_back}
 use Rattle.sound.specs.Sound.{Sound}
-use Rattle.sound.specs.Question.{sound?, t_block, encoded-sound}
+use Rattle.sound.specs.Question.{sound?}
+use Rattle.sound.proofs.Question.{t_block, encoded-sound}
 use Rattle.soundness.specs.Whole.{sound-parts, parts-sound}
 use Rattle.calling.specs.Resolves.{resolved-parts}
 use Rattle.svc.specs.Call.{with_objects, resolved}

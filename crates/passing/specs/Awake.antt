@@ -15,7 +15,7 @@ use Rattle.thread.specs.Threads.{with_threads, release_waits, end_wait}
 use Rattle.soundness.specs.Fits.{Word, no-objects}
 use Rattle.soundness.specs.Threads.{thread-same}
 use Rattle.soundness.specs.Whole.{Parts}
-use Rattle.soundness.specs.Ends.{end_wait-parts}
+use Rattle.soundness.proofs.Ends.{end_wait-parts}
 use Rattle.pass.specs.declared.Waits.{Waits}
 use Rattle.pass.specs.Waits.{awake}
 use Rattle.passing.specs.Signal.{live_in}

@@ -20,7 +20,7 @@ use Rattle.soundness.specs.Tls.{tls-same}
 use Rattle.soundness.specs.Threads.{threads-set}
 use Rattle.soundness.specs.Whole.{Parts, sound-parts, parts-sound}
 use Rattle.soundness.specs.Creates.{StoreOk, parts-store, store-more}
-use Rattle.soundness.specs.Ends.{fits-at, live_same}
+use Rattle.soundness.proofs.Ends.{fits-at, live_same}
 use Rattle.passing.specs.Widths.{Widths, widths-of, fits-of}
 
 module _ (k : Kernel) (t : ℕ) (l : t < k.thread_count) (p : ℕ) (h : Parts k) where

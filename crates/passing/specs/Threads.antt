@@ -22,7 +22,7 @@ use Rattle.soundness.specs.Tls.{tls-same}
 use Rattle.soundness.specs.Threads.{threads-set}
 use Rattle.soundness.specs.Whole.{Parts}
 use Rattle.soundness.specs.Creates.{StoreOk, parts-store, store-more, blank-dead}
-use Rattle.soundness.specs.Ends.{only_none, fits-at, live_same}
+use Rattle.soundness.proofs.Ends.{only_none, fits-at, live_same}
 use Rattle.pass.specs.Pick.{is_runnable}
 use Rattle.pass.specs.Schedule.{with_run}
 use Rattle.passing.specs.Signal.{live_in}

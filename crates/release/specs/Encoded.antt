@@ -6,7 +6,8 @@ use Rattle.types.specs.declared.kernel.Kernel.{Kernel}
 use Rattle.block.specs.Block.{head_at, head_words, enc_block, dec_block}
 use Rattle.block.proofs.Fits.{StateFits, block_back}
 use Rattle.sound.specs.Sound.{Sound}
-use Rattle.sound.specs.Question.{sound?, t_block, encoded-sound}
+use Rattle.sound.specs.Question.{sound?}
+use Rattle.sound.proofs.Question.{t_block, encoded-sound}
 use Rattle.soundness.specs.Fits.{StoreFits}
 use Rattle.soundness.specs.Whole.{Parts, parts-sound}
 use Rattle.thread.specs.Threads.{with_threads}

@@ -6,7 +6,8 @@ use Rattle.types.specs.declared.thread.ThreadOption.TheVariants.{NoThread, SomeT
 use Rattle.types.specs.Thread.{thread_flag, thread_value}
 use Rattle.block.specs.Block.{dec_block}
 use Rattle.sound.specs.Threads.{CurrentOk}
-use Rattle.sound.specs.Question.{sound?, t_block}
+use Rattle.sound.specs.Question.{sound?}
+use Rattle.sound.proofs.Question.{t_block}
 
 pub some-thread : (c : ThreadOption) → thread_flag c ≢ 0 → c ≡ SomeThread (thread_value c)
 some-thread NoThread z = absurd (z refl)

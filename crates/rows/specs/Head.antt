@@ -8,7 +8,8 @@ use Rattle.block.specs.declared.Head.{Head}
 use Rattle.block.specs.Thread.{four}
 use Rattle.block.specs.Block.{head_at, head_list, head_w, head_words, enc_head, enc_block, dec_block}
 use Rattle.block.proofs.Fits.{StateFits}
-use Rattle.sound.specs.Question.{sound?, t_block}
+use Rattle.sound.specs.Question.{sound?}
+use Rattle.sound.proofs.Question.{t_block}
 
 head_as : (h : Head) (y : List ℕ) → enc_head h ++ y ≡ enc_as head_w (head_list h) ++ (replicate 64 0 ++ y)
 unfolding enc_head enc_as

@@ -26,7 +26,8 @@ use Rattle.block.specs.Block.{head_words, enc_head, enc_block, dec_block}
 use Rattle.block.proofs.Row.{length-all}
 use Rattle.block.proofs.Sizes.{length-enc_head, length-enc_thread, length-enc_slot, length-enc_entry, length-enc_waiter, length-enc_id}
 use Rattle.block.proofs.Fits.{StateFits}
-use Rattle.sound.specs.Question.{sound?, t_block}
+use Rattle.sound.specs.Question.{sound?}
+use Rattle.sound.proofs.Question.{t_block}
 use Rattle.tally.specs.Place.{is_slot, slot_index, slot-some, slot-past, index-slot}
 use Rattle.object.specs.Slots.{with_slots, with_kept}
 use Rattle.object.specs.Slots as object

@@ -1,10 +1,10 @@
 -- "Threads at most 32, priorities at most 63, known statuses ..; at most the current thread Running, it never Dead; lists only in waiting threads".
 -- Known statuses are asked by the canonical test of the block.
-use Rattle.std.specs.Prelude.{◌≡◌, refl, Bool, true, false, not, ◌≢◌, List, [], ◌∷◌, ℕ, zero, suc, ◌≤◌, ◌<◌, eqb, leb, ltb}
-use Rattle.std.proofs.Common.{ap, sym, ◌∙◌, arith, ltb-true, ltb-false}
-use Rattle.laws.specs.Logic.{pick, ◌and◌, false-true}
-use Rattle.laws.specs.Test.{Test, t-yes, t-no, t_never, t-eq, t-le, t-lt, t-and, t_as, t_not}
-use Rattle.laws.specs.Numbers.{all_below, t-all_below}
+use Rattle.std.specs.Prelude.{◌≡◌, Bool, true, false, not, ◌≢◌, List, [], ◌∷◌, ℕ, zero, suc, ◌≤◌, ◌<◌, eqb, leb, ltb}
+use Rattle.std.proofs.Common.{ap, arith}
+use Rattle.laws.specs.Logic.{pick, ◌and◌}
+use Rattle.laws.specs.Test.{Test, t-yes, t-no, t_never, t-eq, t-le, t-lt, t-and, t_as}
+use Rattle.laws.specs.Numbers.{all_below}
 use Rattle.types.specs.declared.thread.ThreadOption.{ThreadOption}
 use Rattle.types.specs.declared.thread.ThreadOption.TheVariants.{NoThread, SomeThread}
 use Rattle.types.specs.declared.thread.ThreadStatus.{ThreadStatus}
@@ -63,15 +63,6 @@ only? WaitSync n = true
 only? WaitArbiter n = eqb n 0
 only? Dormant n = eqb n 0
 
-t-only : (s : ThreadStatus) (n : ℕ) → Test (only? s n) (Only s n)
-t-only Dead n = t-eq n 0
-t-only Running n = t-eq n 0
-t-only Ready n = t-eq n 0
-t-only Sleeping n = t-eq n 0
-t-only WaitSync n = t-yes
-t-only WaitArbiter n = t-eq n 0
-t-only Dormant n = t-eq n 0
-
 -- ---- at most the current thread Running, it never Dead
 abbrev pub is_current : ThreadOption → ℕ → Bool
 is_current NoThread i = false
@@ -99,23 +90,6 @@ run? WaitSync c i = true
 run? WaitArbiter c i = true
 run? Dormant c i = true
 
-t_not_current : (c : ThreadOption) (i : ℕ) → Test (not (is_current c i)) (c ≢ SomeThread i)
-t_not_current c i =
-    t_as (λ e q. false-true (sym e ∙ (t-is_current c i).has q)) (λ n. no (is_current c i) (λ e. n ((t-is_current c i).yes e))) (t_not (is_current c i))
-  where
-    no : (b : Bool) → (b ≡ true → ⊥) → b ≡ false
-    no true f = absurd (f refl)
-    no false f = refl
-
-t-run : (s : ThreadStatus) (c : ThreadOption) (i : ℕ) → Test (run? s c i) (RunOk s c i)
-t-run Dead c i = t_not_current c i
-t-run Running c i = t-is_current c i
-t-run Ready c i = t-yes
-t-run Sleeping c i = t-yes
-t-run WaitSync c i = t-yes
-t-run WaitArbiter c i = t-yes
-t-run Dormant c i = t-yes
-
 -- ---- a place in use
 pub record ThreadOk (c : ThreadOption) (i : ℕ) (t : Thread) : Type 0 where
   pub priority : t.priority ≤ 63
@@ -126,22 +100,12 @@ pub record ThreadOk (c : ThreadOption) (i : ℕ) (t : Thread) : Type 0 where
 unfoldable pub thread? : ThreadOption → ℕ → Thread → Bool
 thread? c i t = leb t.priority 63 and (run? t.status c i and (places? t.wait_count (ids t.wait_objects) and only? t.status t.wait_count))
 
-t-thread : (c : ThreadOption) (i : ℕ) (t : Thread) → Test (thread? c i t) (ThreadOk c i t)
-unfolding thread?
-t-thread c i t =
-    t_as (λ h. record { priority = h.0; run = h.1.0; list = h.1.1.0; only = h.1.1.1 }) (λ h. (h.priority, (h.run, (h.list, h.only))))
-    (t-and (t-le t.priority 63) (t-and (t-run t.status c i) (t-and (t-places t.wait_count (ids t.wait_objects)) (t-only t.status t.wait_count))))
-
 -- ---- a place not in use is all zero
 abbrev pub Blank : Thread → Type 0
 Blank t = Zeros (words_list (thread_words t)) × Zeros (ids t.wait_objects)
 
 unfoldable pub blank? : Thread → Bool
 blank? t = zeros? (words_list (thread_words t)) and zeros? (ids t.wait_objects)
-
-t-blank : (t : Thread) → Test (blank? t) (Blank t)
-unfolding blank?
-t-blank t = t-and (t_zeros (words_list (thread_words t))) (t_zeros (ids t.wait_objects))
 
 -- ---- every place: the first n are in use
 unfoldable pub place? : ℕ → ThreadOption → ℕ → Thread → Bool
@@ -150,16 +114,6 @@ place? n c i t = pick (ltb i n) (thread? c i t) (blank? t)
 pub record PlaceOk (n : ℕ) (c : ThreadOption) (i : ℕ) (t : Thread) : Type 0 where
   pub used : i < n → ThreadOk c i t
   pub unused : n ≤ i → Blank t
-
-t-place : (n : ℕ) (c : ThreadOption) (i : ℕ) (t : Thread) → Test (place? n c i t) (PlaceOk n c i t)
-unfolding place?
-t-place n c i t = go (ltb i n) refl
-  where
-    go : (b : Bool) → ltb i n ≡ b → Test (pick b (thread? c i t) (blank? t)) (PlaceOk n c i t)
-    go true e =
-        t_as (λ h. record { used = λ l. h; unused = λ l. absurd (omega (arith, ltb-true i n e)) }) (λ h. h.used (ltb-true i n e)) (t-thread c i t)
-    go false e =
-        t_as (λ h. record { used = λ l. absurd (omega (arith, ltb-false i n e)); unused = λ l. h }) (λ h. h.unused (ltb-false i n e)) (t-blank t)
 
 -- ---- the current thread exists
 abbrev pub CurrentOk : ThreadOption → ℕ → Type 0
@@ -182,9 +136,3 @@ pub record ThreadsOk (n : ℕ) (c : ThreadOption) (ts : List Thread) : Type 0 wh
   pub many : n ≤ 32
   pub current : CurrentOk c n
   pub each : (i : ℕ) → i < 32 → PlaceOk n c i (thread_at ts i)
-
-pub t-threads : (n : ℕ) (c : ThreadOption) (ts : List Thread) → Test (threads? n c ts) (ThreadsOk n c ts)
-unfolding threads?
-t-threads n c ts =
-    t_as (λ h. record { many = h.0; current = h.1.0; each = h.1.1 }) (λ h. (h.many, (h.current, h.each)))
-    (t-and (t-le n 32) (t-and (t-current c n) (t-all_below 32 (λ i. t-place n c i (thread_at ts i)))))

@@ -10,7 +10,8 @@ use Rattle.types.specs.declared.kernel.Kernel.{Kernel}
 use Rattle.block.specs.Block.{dec_block}
 use Rattle.sound.specs.View.{slot_at, object_at}
 use Rattle.sound.specs.Objects.{Live}
-use Rattle.sound.specs.Question.{sound?, t_block}
+use Rattle.sound.specs.Question.{sound?}
+use Rattle.sound.proofs.Question.{t_block}
 use Rattle.object.specs.Slots.{with_object, with_slots, content}
 use Rattle.object.specs.Slots as object
 use Rattle.soundness.specs.Whole.{sound-parts}

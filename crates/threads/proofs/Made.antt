@@ -12,7 +12,8 @@ use Rattle.block.specs.Block.{enc_block, dec_block}
 use Rattle.block.proofs.Fits.{block_back}
 use Rattle.sound.specs.Objects.{kept_at}
 use Rattle.sound.specs.Sound.{Sound}
-use Rattle.sound.specs.Question.{sound?, t_block, encoded-sound}
+use Rattle.sound.specs.Question.{sound?}
+use Rattle.sound.proofs.Question.{t_block, encoded-sound}
 use Rattle.object.specs.Store.{insert, add_ref}
 use Rattle.object.specs.Handles.{give, create}
 use Rattle.object.specs.Kept.{thread_object}

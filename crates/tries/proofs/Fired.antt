@@ -9,7 +9,8 @@ use Rattle.types.specs.declared.object.Slot.{Slot}
 use Rattle.types.specs.declared.kernel.Kernel.{Kernel}
 use Rattle.block.specs.Block.{dec_block}
 use Rattle.sound.specs.View.{no_slot}
-use Rattle.sound.specs.Question.{sound?, t_block}
+use Rattle.sound.specs.Question.{sound?}
+use Rattle.sound.proofs.Question.{t_block}
 use Rattle.object.specs.Slots.{with_slots}
 use Rattle.soundness.specs.Whole.{Parts, sound-parts}
 use Rattle.thread.specs.Threads.{with_threads}

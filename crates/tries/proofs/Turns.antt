@@ -13,7 +13,8 @@ use Rattle.types.specs.declared.kernel.Kernel.{Kernel}
 use Rattle.block.specs.Block.{dec_block}
 use Rattle.sound.specs.View.{ids, object_at, thread_at}
 use Rattle.sound.specs.Objects.{Live}
-use Rattle.sound.specs.Question.{sound?, t_block}
+use Rattle.sound.specs.Question.{sound?}
+use Rattle.sound.proofs.Question.{t_block}
 use Rattle.object.specs.Store.{releases}
 use Rattle.soundness.specs.Objects.{releases-overflow}
 use Rattle.soundness.specs.Whole.{Parts, sound-parts}

@@ -8,7 +8,8 @@ use Rattle.types.specs.declared.kernel.Kernel.{Kernel}
 use Rattle.block.specs.Block.{enc_block, dec_block}
 use Rattle.block.proofs.Fits.{StateFits, block_back}
 use Rattle.sound.specs.View.{slot_at}
-use Rattle.sound.specs.Question.{sound?, t_block}
+use Rattle.sound.specs.Question.{sound?}
+use Rattle.sound.proofs.Question.{t_block}
 use Rattle.object.specs.Slots.{with_slots}
 use Rattle.object.specs.Slots as object
 use Rattle.object.specs.Store.{add_ref, add_refs}

@@ -11,7 +11,8 @@ use Rattle.types.specs.declared.kernel.Kernel.{Kernel}
 use Rattle.block.specs.Block.{enc_block, dec_block}
 use Rattle.sound.specs.View.{object_at}
 use Rattle.sound.specs.Objects.{Live}
-use Rattle.sound.specs.Question.{sound?, t_block}
+use Rattle.sound.specs.Question.{sound?}
+use Rattle.sound.proofs.Question.{t_block}
 use Rattle.soundness.specs.Whole.{sound-parts}
 use Rattle.thread.specs.Threads.{with_threads}
 use Rattle.pass.specs.Signal.{acquire_over, acquire, acquires}

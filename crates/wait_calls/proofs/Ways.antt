@@ -14,7 +14,8 @@ use Rattle.types.specs.Thread.{thread_flag, thread_value}
 use Rattle.block.specs.Block.{enc_block, dec_block}
 use Rattle.sound.specs.View.{object_at}
 use Rattle.sound.specs.Objects.{KeptOk}
-use Rattle.sound.specs.Question.{sound?, t_block}
+use Rattle.sound.specs.Question.{sound?}
+use Rattle.sound.proofs.Question.{t_block}
 use Rattle.object.specs.declared.kept.Resolved.{Resolved}
 use Rattle.object.specs.Handles.{object_of}
 use Rattle.pass.specs.Asks.{pseudo}

@@ -20,7 +20,8 @@ use Rattle.types.specs.Object.{next_of}
 use Rattle.types.specs.Thread.{wait_list}
 use Rattle.block.specs.Block.{enc_block, dec_block}
 use Rattle.sound.specs.View.{ids, object_at}
-use Rattle.sound.specs.Question.{sound?, t_block}
+use Rattle.sound.specs.Question.{sound?}
+use Rattle.sound.proofs.Question.{t_block}
 use Rattle.kernel.specs.NextEvent.{contains}
 use Rattle.object.specs.Handles.{object_of}
 use Rattle.soundness.specs.Kept.{CurrentIn}

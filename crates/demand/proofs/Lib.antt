@@ -1,0 +1,2 @@
+-- The premises of the demand can be met.
+pub mod Witness
