@@ -64,12 +64,12 @@ module _ (k : Kernel) (p : Parts k) (t : HandleTable) (s : ObjectStore) where
     store_fits = h.fits;
     table_fits = b;
     nt = p.nt;
-    threads_fit = p.threadsFit;
+    threads_fit = p.threads_fit;
     status = p.status;
-    thread_count = p.threadCount;
+    thread_count = p.thread_count;
     current = p.current;
-    next_tls = p.nextTls;
-    next_guest = p.nextGuest;
+    next_tls = p.next_tls;
+    next_guest = p.next_guest;
     clean = (p.clean.0, p.clean.1, h.full, h.overflow, f, g);
   }
 
@@ -90,15 +90,15 @@ module _ (k : Kernel) (v : KObject) (q : NewOk k v) (p : Parts k) where
       let t : HandleTable = give k.handles k.objects.free in
       let s : ObjectStore = insert k.objects v in
       let b : BothOk (record { table = t; store = s }) (listed k) =
-      make-ok k.handles k.objects v (listed k) p.table (λ e. ok_as _ (λ i z. omega (arith, names_of k i)) p.ob) q.kind q.head c.storeFull c.tableFull c.tableOverflow in
-      both-parts k p t s b.table (give-fits k.handles k.objects.free p.storeFits.free p.tableFits) c.tableFull c.tableOverflow
+      make-ok k.handles k.objects v (listed k) p.table (λ e. ok_as _ (λ i z. omega (arith, names_of k i)) p.ob) q.kind q.head c.store_full c.table_full c.table_overflow in
+      both-parts k p t s b.table (give-fits k.handles k.objects.free p.store_fits.free p.table_fits) c.table_full c.table_overflow
       (record {
         ob = ok_as _ (λ i z. omega (arith, names_of (with_handles k t s) i)) b.store;
         contents = each-insert (ContentOk k.thread_count k.threads) k.objects v q.content p.contents;
-        chains = chains-same k.thread_count k.objects s (insert-same k.objects v (names k.handles k.threads) q.head (insert-full k.objects v c.storeFull).1 p.ob) p.chains;
-        fits = insert-fits k.objects p.storeFits v q.fits;
-        full = c.storeFull;
-        overflow = c.storeOverflow;
+        chains = chains-same k.thread_count k.objects s (insert-same k.objects v (names k.handles k.threads) q.head (insert-full k.objects v c.store_full).1 p.ob) p.chains;
+        fits = insert-fits k.objects p.store_fits v q.fits;
+        full = c.store_full;
+        overflow = c.store_overflow;
       })
 
 pub create_object-sound : (k : Kernel) (v : KObject) → NewOk k v → Sound k → Clear (create_object k v).kernel → Sound (create_object k v).kernel
@@ -129,4 +129,4 @@ module _ (k : Kernel) (p : Parts k) (o : ℕ) (x y : KObject) (e : object_at k.o
 
 -- after the handle h was resolved
 pub resolved-sound : (k : Kernel) (h : ℕ) (v : Served) → Keeps (with_objects k (resolved k h).store) v → Sound k → Clear v.kernel → Sound v.kernel
-resolved-sound k h v d s c = parts-sound v.kernel (d.parts (resolved-parts k (sound-parts k s) h (sym d.full ∙ c.storeFull)) c)
+resolved-sound k h v d s c = parts-sound v.kernel (d.parts (resolved-parts k (sound-parts k s) h (sym d.full ∙ c.store_full)) c)

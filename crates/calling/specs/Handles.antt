@@ -39,15 +39,15 @@ module _ (k : Kernel) (p : Parts k) (h : ℕ) where
       let n : ℕ = k.thread_count in
       let b : Both = close k.handles k.objects h in
       let q : BothOk b (listed k) = close-ok k.handles k.objects h (listed k) p.table (apart k p) in
-      let f = close-fits k.handles k.objects h p.tableFits p.storeFits in
-      both-parts k p b.table b.store q.table f.0 c.tableFull c.tableOverflow
+      let f = close-fits k.handles k.objects h p.table_fits p.store_fits in
+      both-parts k p b.table b.store q.table f.0 c.table_full c.table_overflow
       (record {
         ob = ok_as _ (λ i z. omega (arith, names_of (with_handles k b.table b.store) i)) q.store;
         contents = each-close (ContentOk n k.threads) (content-free n k.threads) k.handles k.objects h p.contents;
         chains = close-chains n k.handles k.objects h (listed k) (apart k p) p.chains;
         fits = f.1;
-        full = c.storeFull;
-        overflow = c.storeOverflow;
+        full = c.store_full;
+        overflow = c.store_overflow;
       })
 
 pub close_handle-sound : (k : Kernel) (r : Registers) → Sound k → Clear (close_handle k r).kernel → Sound (close_handle k r).kernel
@@ -66,16 +66,16 @@ module _ (k : Kernel) (p : Parts k) (o : ℕ) (z : 0 < o) (d : 0 < names k.handl
       let n : ℕ = k.thread_count in
       let b : Both = create k.handles k.objects o in
       let q : BothOk b (listed k) =
-      create-ok k.handles k.objects o (listed k) p.table (apart k p) z (omega (arith, d, names_of k o)) (omega (arith, few-names k p o, names_of k o)) c.tableFull c.tableOverflow in
-      let f = create-fits k.handles k.objects o (omega (arith, named-slot k.objects (names k.handles k.threads) p.ob o z d, p.ob.ns)) p.tableFits p.storeFits in
-      both-parts k p b.table b.store q.table f.0 c.tableFull c.tableOverflow
+      create-ok k.handles k.objects o (listed k) p.table (apart k p) z (omega (arith, d, names_of k o)) (omega (arith, few-names k p o, names_of k o)) c.table_full c.table_overflow in
+      let f = create-fits k.handles k.objects o (omega (arith, named-slot k.objects (names k.handles k.threads) p.ob o z d, p.ob.ns)) p.table_fits p.store_fits in
+      both-parts k p b.table b.store q.table f.0 c.table_full c.table_overflow
       (record {
         ob = ok_as _ (λ i w. omega (arith, names_of (with_handles k b.table b.store) i)) q.store;
         contents = each-create (ContentOk n k.threads) k.handles k.objects o p.contents;
         chains = create-chains n k.handles k.objects o p.chains;
         fits = f.1;
-        full = c.storeFull;
-        overflow = c.storeOverflow;
+        full = c.store_full;
+        overflow = c.store_overflow;
       })
 
 pub create-full : (t : HandleTable) (s : ObjectStore) (o : ℕ) → (create t s o).store.full ≡ s.full
@@ -90,10 +90,10 @@ module _ (k : Kernel) (p : Parts k) (h : ℕ) where
       (gives (with_handles k (create k.handles (resolved k h).store (resolved k h).object.0).table (create k.handles (resolved k h).store (resolved k h).object.0).store) k.handles.next.0)
 
   duplicate_as : (q : Bool) → eqb (resolved k h).object.0 0 ≡ q → Clear (duplicated q).kernel → Parts (duplicated q).kernel
-  duplicate_as true e c = resolved-parts k p h c.storeFull
+  duplicate_as true e c = resolved-parts k p h c.store_full
   duplicate_as false e c =
       let z : 0 < (resolved k h).object.0 = let m = eqb-false (resolved k h).object.0 0 e in omega arith in
-      let f : (resolved k h).store.full ≡ false = sym (create-full k.handles (resolved k h).store (resolved k h).object.0) ∙ c.storeFull in
+      let f : (resolved k h).store.full ≡ false = sym (create-full k.handles (resolved k h).store (resolved k h).object.0) ∙ c.store_full in
       handle_parts (with_objects k (resolved k h).store) (resolved-parts k p h f) (resolved k h).object.0 z (resolved-named k p h f z) c
 
 pub duplicate_handle-sound : (k : Kernel) (r : Registers) → Sound k → Clear (duplicate_handle k r).kernel → Sound (duplicate_handle k r).kernel

@@ -88,7 +88,7 @@ module _ (k : Kernel) (p : Parts k) (h : ℕ) (e : (resolved k h).store.full ≡
         ob = resolved-found.ok;
         contents = each-resolve (ContentOk n k.threads) c k.handles k.objects h (current-content n k.threads c p.threads.current) tt p.contents;
         chains = chains-same n k.objects (resolved k h).store resolved-found.same p.chains;
-        fits = resolve-fits c k.handles k.objects h (current-word c p.current) p.storeFits;
+        fits = resolve-fits c k.handles k.objects h (current-word c p.current) p.store_fits;
         full = e;
         overflow = resolve-overflow c k.handles k.objects h ∙ p.clean.3;
       }

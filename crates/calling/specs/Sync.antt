@@ -117,15 +117,15 @@ over-parts k b e p = record {
   table = p.table;
   threads = p.threads;
   tls = p.tls;
-  store_fits = p.storeFits;
-  table_fits = p.tableFits;
+  store_fits = p.store_fits;
+  table_fits = p.table_fits;
   nt = p.nt;
-  threads_fit = p.threadsFit;
+  threads_fit = p.threads_fit;
   status = p.status;
-  thread_count = p.threadCount;
+  thread_count = p.thread_count;
   current = p.current;
-  next_tls = p.nextTls;
-  next_guest = p.nextGuest;
+  next_tls = p.next_tls;
+  next_guest = p.next_guest;
   clean = (p.clean.0, e, p.clean.2, p.clean.3, p.clean.4, p.clean.5);
 }
 

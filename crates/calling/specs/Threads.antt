@@ -57,7 +57,7 @@ module _ (k : Kernel) (p : Parts k) (t : ℕ) (l : t < k.thread_count) (e : (thr
         ob = thread-found.0.ok;
         contents = each-thread_object (ContentOk k.thread_count k.threads) k.objects t l p.contents;
         chains = chains-same k.thread_count k.objects (thread_object k.objects t) thread-found.0.same p.chains;
-        fits = thread_object-fits k.objects p.storeFits t (omega (arith, p.threads.many));
+        fits = thread_object-fits k.objects p.store_fits t (omega (arith, p.threads.many));
         full = e;
         overflow = thread_object-overflow k.objects t ∙ p.clean.3;
       }) p
@@ -67,7 +67,7 @@ module _ (k : Kernel) (p : Parts k) (t : ℕ) (l : t < k.thread_count) where
   thread_handle-parts : Clear (thread_handle k t).kernel → Parts (thread_handle k t).kernel
   thread_handle-parts c =
       let s : ObjectStore = thread_object k.objects t in
-      let e : s.full ≡ false = sym (create-full k.handles s (kept_at s t)) ∙ c.storeFull in
+      let e : s.full ≡ false = sym (create-full k.handles s (kept_at s t)) ∙ c.store_full in
       let f = thread-found k p t l e in
       handle_parts (with_objects k s) (thread_object-parts k p t l e) (kept_at s t) f.1 (f.0.known f.1) c
 

@@ -46,8 +46,8 @@ caught-parts k tick e p = catch_up_timers-parts k p k.threads tick e
 pub caught-sound : (k : Kernel) (tick h : ℕ) (v : Served) → Keeps (with_objects (caught_up k tick) (resolved (caught_up k tick) h).store) v → Sound k → Clear v.kernel → Sound v.kernel
 caught-sound k tick h v d s c =
     let j : Kernel = caught_up k tick in
-    let e : j.objects.overflow ≡ false = sym (resolve-overflow j.current_thread j.handles j.objects h) ∙ (sym d.overflow ∙ c.storeOverflow) in
-    parts-sound v.kernel (d.parts (resolved-parts j (caught-parts k tick e (sound-parts k s)) h (sym d.full ∙ c.storeFull)) c)
+    let e : j.objects.overflow ≡ false = sym (resolve-overflow j.current_thread j.handles j.objects h) ∙ (sym d.overflow ∙ c.store_overflow) in
+    parts-sound v.kernel (d.parts (resolved-parts j (caught-parts k tick e (sound-parts k s)) h (sym d.full ∙ c.store_full)) c)
 
 -- ---- `set_timer`
 pub pair_fits : (low high : ℕ) → Word low → Word high → pair low high < 256 ^ 8

@@ -42,6 +42,8 @@ fit_dec (w ∷ ws) s at b = (le-lt w s at b, fit_dec ws s (at + w) b)
 -- one of the values that fit
 pub fit_at : (ws vs : List ℕ) → Fit ws vs → (k : ℕ) → get_or vs k 0 < 256 ^ get_or ws k 0
 fit_at [] [] f k = rw pow-zero (omega arith)
+fit_at [] (v ∷ vs) f k = elim f [ ]
+fit_at (w ∷ ws) [] f k = elim f [ ]
 fit_at (w ∷ ws) (v ∷ vs) f zero = f.0
 fit_at (w ∷ ws) (v ∷ vs) f (suc k) = fit_at ws vs f.1 k
 

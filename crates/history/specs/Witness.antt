@@ -201,12 +201,12 @@ all = record {
   waited = record { accepted = refl; met = inr (inr (inr (inr (inl (shown.shown).waited)))) };
   shortest = record { accepted = refl; met = inr (inr (inl (shown.shown).shortest)) };
   longest = record { accepted = refl; met = inr (inr (inl (shown.shown).longest)) };
-  waited_n = record { accepted = refl; met = inr (inr (inr (inr (inl (shown.shown).waitedN)))) };
+  waited_n = record { accepted = refl; met = inr (inr (inr (inr (inl (shown.shown).waited_n)))) };
   parked3 = record { accepted = refl; met = inr (inr (inr (inr (inl (shown.shown).parked3)))) };
   parked4 = record { accepted = refl; met = inr (inr (inr (inr (inl (shown.shown).parked4)))) };
   woke = record { accepted = refl; met = inr (inr (inr (inr (inl (shown.shown).woke)))) };
-  slept_too = record { accepted = refl; met = inr (inr (inr (inr (inr (inl (shown.shown).sleptToo))))) };
-  repeats_too = record { accepted = refl; met = inr (inr (inr (inr (inl (shown.shown).repeatsToo)))) };
+  slept_too = record { accepted = refl; met = inr (inr (inr (inr (inr (inl (shown.shown).slept_too))))) };
+  repeats_too = record { accepted = refl; met = inr (inr (inr (inr (inl (shown.shown).repeats_too)))) };
   gave = record { accepted = refl; met = inr (inr (inr (inr (inl (shown.shown).gave)))) };
   prompt = record { accepted = refl; met = inr (inr (inr (inr (inl (shown.shown).prompt)))) };
   relieved = record { accepted = refl; met = inr (inr (inr (inl (shown.shown).relieved))) };
@@ -232,7 +232,7 @@ module _ (b : List ℕ) (l : length b ≡ 16384) where
   slept-longest = occurs shown.Late longest all.longest
 
   pub waited-list : Somewhere shown.Late (map event_of (trace (start ∷ waits_n) b))
-  waited-list = occurs shown.Late waits_n all.waitedN
+  waited-list = occurs shown.Late waits_n all.waited_n
 
   pub parked3 : Somewhere shown.Late (map event_of (trace (start ∷ parks_in_vain 3) b))
   parked3 = occurs shown.Late (parks_in_vain 3) all.parked3
@@ -244,10 +244,10 @@ module _ (b : List ℕ) (l : length b ≡ 16384) where
   woke = occurs shown.Given wakes all.woke
 
   pub slept-too : Somewhere shown.Late (map event_of (trace (start ∷ busy) b))
-  slept-too = occurs shown.Late busy all.sleptToo
+  slept-too = occurs shown.Late busy all.slept_too
 
   pub repeats-too : Somewhere (shown.Armed 1 10 1000 2000 shown.busy_dues) (map event_of (trace (start ∷ busy) b))
-  repeats-too = occurs (shown.Armed 1 10 1000 2000 shown.busy_dues) busy all.repeatsToo
+  repeats-too = occurs (shown.Armed 1 10 1000 2000 shown.busy_dues) busy all.repeats_too
 
   pub gave : Somewhere shown.Given (map event_of (trace (start ∷ gets) b))
   gave = occurs shown.Given gets all.gave

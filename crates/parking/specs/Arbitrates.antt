@@ -59,13 +59,13 @@ module _ (kind : ArbitrationType) (k : Kernel) (r : Registers) (word tick : ℕ)
       (arbitrate_as kind (with_objects k (resolved k r.r0).store) (resolved k r.r0).object.0 r.r1 r.r3 word (pair r.r4 r.r5) tick)
 
   served-parts : (b : Bool) → eqb (resolved k r.r0).object.0 0 ≡ b → RegistersFit r → Unlisted k.threads k.current_thread → Parts k → Clear (served b).kernel → Parts (served b).kernel
-  served-parts true q f u p c = resolved-parts k p r.r0 c.storeFull
+  served-parts true q f u p c = resolved-parts k p r.r0 c.store_full
   served-parts false q f u p c =
       let h : ℕ = r.r0 in
       let n = eqb-false (resolved k h).object.0 0 q in
       let z : 0 < (resolved k h).object.0 = omega arith in
-      let e : (resolved k h).store.full ≡ false = as_full (with_objects k (resolved k h).store) (resolved k h).object.0 r.r1 r.r3 word (pair r.r4 r.r5) tick kind c.storeFull in
-      as_parts (with_objects k (resolved k h).store) (resolved k h).object.0 r.r1 r.r3 word (pair r.r4 r.r5) tick z (resolved-slot k p h e z) f.r1 u (resolved-parts k p h e) kind c.overflow c.storeFull
+      let e : (resolved k h).store.full ≡ false = as_full (with_objects k (resolved k h).store) (resolved k h).object.0 r.r1 r.r3 word (pair r.r4 r.r5) tick kind c.store_full in
+      as_parts (with_objects k (resolved k h).store) (resolved k h).object.0 r.r1 r.r3 word (pair r.r4 r.r5) tick z (resolved-slot k p h e z) f.r1 u (resolved-parts k p h e) kind c.overflow c.store_full
 
   served-answers : (b : Bool) → Accepted (served b).answer
   served-answers true = inr (omega arith, omega arith)

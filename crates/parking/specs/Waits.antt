@@ -89,16 +89,16 @@ module _ (k : Kernel) (h nanos tick : ℕ) where
   served1-answers false = one-answers (with_objects k (resolved k h).store) (resolved k h).object.0 nanos tick k.current_thread
 
   served1-parts : (b : Bool) → eqb (resolved k h).object.0 0 ≡ b → Parts k → Unlisted k.threads k.current_thread → Clear (served1 b).kernel → Parts (served1 b).kernel
-  served1-parts true q p u c = resolved-parts k p h c.storeFull
+  served1-parts true q p u c = resolved-parts k p h c.store_full
   served1-parts false q p u c =
-      let e : (resolved k h).store.full ≡ false = (served1-sticks false).full c.storeFull in
+      let e : (resolved k h).store.full ≡ false = (served1-sticks false).full c.store_full in
       let n = eqb-false (resolved k h).object.0 0 q in
       let z : 0 < (resolved k h).object.0 = omega arith in
-      one-parts (with_objects k (resolved k h).store) (resolved k h).object.0 nanos tick (resolved-parts k p h e) u z (resolved-named k p h e z) k.current_thread refl c.storeOverflow
+      one-parts (with_objects k (resolved k h).store) (resolved k h).object.0 nanos tick (resolved-parts k p h e) u z (resolved-named k p h e z) k.current_thread refl c.store_overflow
 
   -- the finding before
   served1-before : (b : Bool) → Clear (served1 b).kernel → k.objects.overflow ≡ false
-  served1-before b c = sym (resolve-overflow k.current_thread k.handles k.objects h) ∙ (served1-sticks b).overflow c.storeOverflow
+  served1-before b c = sym (resolve-overflow k.current_thread k.handles k.objects h) ∙ (served1-sticks b).overflow c.store_overflow
 
 pub wait_synchronization1-sound : (k : Kernel) (r : Registers) (tick : ℕ) → runs? k ≡ true → Sound k → Clear (wait_synchronization1 k r tick).kernel → Sound (wait_synchronization1 k r tick).kernel
 unfolding wait_synchronization1
@@ -170,14 +170,14 @@ module _ (k : Kernel) (hs : List ℕ) (all : Bool) (nanos tick : ℕ) where
   served_n-answers false = many-answers (with_objects k left) found all nanos tick k.current_thread
 
   served_n-parts : (b : Bool) → contains found 0 ≡ b → length hs ≤ wait_list → Parts k → Unlisted k.threads k.current_thread → Clear (served_n b).kernel → Parts (served_n b).kernel
-  served_n-parts true q few p u c = (all_found hs k p c.storeFull).parts
+  served_n-parts true q few p u c = (all_found hs k p c.store_full).parts
   served_n-parts false q few p u c =
-      let a : AllFound k left found = all_found hs k p ((served_n-sticks false).full c.storeFull) in
-      many-parts (with_objects k left) found all nanos tick a.parts u (omega (arith, all-length k.current_thread k.handles hs k.objects)) (a.known q) k.current_thread refl c.storeOverflow
+      let a : AllFound k left found = all_found hs k p ((served_n-sticks false).full c.store_full) in
+      many-parts (with_objects k left) found all nanos tick a.parts u (omega (arith, all-length k.current_thread k.handles hs k.objects)) (a.known q) k.current_thread refl c.store_overflow
 
   -- the finding before
   served_n-before : (b : Bool) → Clear (served_n b).kernel → k.objects.overflow ≡ false
-  served_n-before b c = sym (store-overflow k.current_thread k.handles hs k.objects) ∙ (served_n-sticks b).overflow c.storeOverflow
+  served_n-before b c = sym (store-overflow k.current_thread k.handles hs k.objects) ∙ (served_n-sticks b).overflow c.store_overflow
 
 pub wait_synchronization_n-sound : (k : Kernel) (r : Registers) (hs : List ℕ) (tick : ℕ) → length hs ≤ wait_list → runs? k ≡ true → Sound k → Clear (wait_synchronization_n k r hs tick).kernel
     → Sound (wait_synchronization_n k r hs tick).kernel

@@ -129,7 +129,7 @@ module _ (n : ℕ) (ts : List Thread) where
     ob = record { counts = h.ob.counts; kept = record { thread = h.ob.kept.thread; process = h.ob.kept.process }; chained = h.ob.chained; blanks = h.ob.blanks; ns = h.ob.ns; nw = h.ob.nw; ni = h.ob.ni };
     contents = h.contents;
     chains = h.chains;
-    fits = record { slots = h.fits.slots; free = h.fits.free; waiters = h.fits.waiters; free_waiter = h.fits.freeWaiter; ids = h.fits.ids; process = h.fits.process };
+    fits = record { slots = h.fits.slots; free = h.fits.free; waiters = h.fits.waiters; free_waiter = h.fits.free_waiter; ids = h.fits.ids; process = h.fits.process };
     full = h.full;
     overflow = e;
   }
@@ -144,13 +144,13 @@ store-parts k s h p = record {
   threads = p.threads;
   tls = p.tls;
   store_fits = h.fits;
-  table_fits = p.tableFits;
+  table_fits = p.table_fits;
   nt = p.nt;
-  threads_fit = p.threadsFit;
+  threads_fit = p.threads_fit;
   status = p.status;
-  thread_count = p.threadCount;
+  thread_count = p.thread_count;
   current = p.current;
-  next_tls = p.nextTls;
-  next_guest = p.nextGuest;
+  next_tls = p.next_tls;
+  next_guest = p.next_guest;
   clean = (p.clean.0, p.clean.1, h.full, h.overflow, p.clean.4, p.clean.5);
 }

@@ -104,7 +104,7 @@ module _ (k : Kernel) (p : Parts k) (l : List ObjectId) (n : ℕ) (q : Waitable 
               (λ o z. omega (arith, few-names k p o, count-length o os, take-length n (ids l), length-map l (λ (x : ObjectId). x.0), q.size)) p.ob;
           contents = each-add_refs (ContentOk m ts') os k.objects (λ o. content-more m m ts ts' (omega arith) (live-after k p c live waiter turned) (object_at k.objects o) (p.contents o));
           chains = chains-same m k.objects (add_refs k.objects os) (add_refs-same os k.objects) p.chains;
-          fits = add_refs-fits os k.objects p.storeFits;
+          fits = add_refs-fits os k.objects p.store_fits;
           full = add_refs-full os k.objects ∙ p.clean.2;
           overflow = add_refs-overflow os k.objects ∙ p.clean.3;
         }

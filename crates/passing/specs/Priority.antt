@@ -38,7 +38,7 @@ module _ (k : Kernel) (t : ℕ) (l : t < k.thread_count) (p : ℕ) (h : Parts k)
 
   fits : ThreadFits new
   fits =
-      let w : Widths old = widths-of old (fits-at k.threads t in_list h.threadsFit) in
+      let w : Widths old = widths-of old (fits-at k.threads t in_list h.threads_fit) in
       let o = w.own in
       fits-of new
       (record {
@@ -70,14 +70,14 @@ module _ (k : Kernel) (t : ℕ) (l : t < k.thread_count) (p : ℕ) (h : Parts k)
             (record { run = λ j e s r. r; used = λ j e q. q; unused = λ j e q. q }) h.threads;
         tls = tls-same k.threads k.next_tls_slot t new in_list refl refl h.tls;
         store_fits = store.fits;
-        table_fits = h.tableFits;
+        table_fits = h.table_fits;
         nt = length-set k.threads t new ∙ h.nt;
-        threads_fit = all_set ThreadFits k.threads t fits h.threadsFit;
+        threads_fit = all_set ThreadFits k.threads t fits h.threads_fit;
         status = h.status;
-        thread_count = h.threadCount;
+        thread_count = h.thread_count;
         current = h.current;
-        next_tls = h.nextTls;
-        next_guest = h.nextGuest;
+        next_tls = h.next_tls;
+        next_guest = h.next_guest;
         clean = h.clean;
       }
 

@@ -114,15 +114,15 @@ module _ (k : Kernel) (p : Parts k) where
           };
     };
     tls = p.tls;
-    store_fits = p.storeFits;
-    table_fits = p.tableFits;
+    store_fits = p.store_fits;
+    table_fits = p.table_fits;
     nt = p.nt;
-    threads_fit = p.threadsFit;
+    threads_fit = p.threads_fit;
     status = p.status;
-    thread_count = p.threadCount;
+    thread_count = p.thread_count;
     current = word next c;
-    next_tls = p.nextTls;
-    next_guest = p.nextGuest;
+    next_tls = p.next_tls;
+    next_guest = p.next_guest;
     clean = p.clean;
   }
     where

@@ -45,7 +45,7 @@ module _ (k : Kernel) (p : Parts k) (i : ℕ) (live : Live k.threads i) where
   live-ok = (p.threads.each i live-place).used live-used
 
   pub live-widths : Widths (thread_at k.threads i)
-  live-widths = widths-of (thread_at k.threads i) (fits-at k.threads i (live_in k.threads i live) p.threadsFit)
+  live-widths = widths-of (thread_at k.threads i) (fits-at k.threads i (live_in k.threads i live) p.threads_fit)
 
 -- ---- a thread v in the place i, where a thread that is not Dead stood
 pub record Turned (c : ThreadOption) (i : ℕ) (old v : Thread) : Type 0 where
@@ -76,14 +76,14 @@ module _ (k : Kernel) (p : Parts k) (i : ℕ) (live : Live k.threads i) (v : Thr
             (record { used = λ q. h.ok; unused = λ q. absurd (omega arith) }) (record { run = λ j e s r. r; used = λ j e q. q; unused = λ j e q. q }) p.threads;
         tls = tls-same k.threads k.next_tls_slot i v in_list dead-same h.tls p.tls;
         store_fits = o.fits;
-        table_fits = p.tableFits;
+        table_fits = p.table_fits;
         nt = length-set k.threads i v ∙ p.nt;
-        threads_fit = all_set ThreadFits k.threads i (fits-of v h.widths) p.threadsFit;
+        threads_fit = all_set ThreadFits k.threads i (fits-of v h.widths) p.threads_fit;
         status = p.status;
-        thread_count = p.threadCount;
+        thread_count = p.thread_count;
         current = p.current;
-        next_tls = p.nextTls;
-        next_guest = p.nextGuest;
+        next_tls = p.next_tls;
+        next_guest = p.next_guest;
         clean = (p.clean.0, p.clean.1, o.full, o.overflow, p.clean.4, p.clean.5);
       }
 

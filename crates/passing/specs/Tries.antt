@@ -48,7 +48,7 @@ try_parts k Slept w t h e p = awake-parts k w t (thread_at w.threads t).wait_res
 
 pub try_wait-parts : (k : Kernel) (tick : ℕ) (w : Waits) (t : ℕ) → (try_wait tick w t).objects.overflow ≡ false → Parts (during k w) → Parts (during k (try_wait tick w t))
 unfolding try_wait
-try_wait-parts k tick w t e p = try_parts k (fate w.threads w.objects tick t) w t (fate-ok w.threads w.objects tick t (list-short w.threads t p.threadsFit)) e p
+try_wait-parts k tick w t e p = try_parts k (fate w.threads w.objects tick t) w t (fate-ok w.threads w.objects tick t (list-short w.threads t p.threads_fit)) e p
 
 pub try_waits-parts : (k : Kernel) (tick n t : ℕ) (w : Waits) → (try_waits tick n t w).objects.overflow ≡ false → Parts (during k w) → Parts (during k (try_waits tick n t w))
 unfolding try_waits

@@ -1,6 +1,6 @@
 -- One record of a row of records anew, inside a longer list. Assumes nothing.
 use Rattle.std.specs.Prelude.{◌≡◌, take, drop, set}
-use Rattle.std.proofs.Common.{sym, ◌∙◌, add-zero, zero-mul, suc-mul, arith, length-append, take_at_lem, drop_at}
+use Rattle.std.proofs.Common.{sym, ◌∙◌, add-zero, zero-mul, suc-mul, arith, length-append, take_at, drop_at}
 use Rattle.std.proofs.Math.Path.{ap}
 use mathlib.Core.List.{List, [], ◌∷◌, ◌++◌, append_assoc}
 use Prim.Native.Nat.{ℕ, zero, suc, ◌+◌, ◌*◌, ◌<◌}
@@ -11,7 +11,7 @@ use Rattle.codec.specs.Layout.{enc_all}
 -- a part anew, of the same length
 pub over-at : (p y x e : List ℕ) (at size : ℕ) → length p ≡ at → length y ≡ size → length x ≡ size → over (p ++ (y ++ e)) at x ≡ p ++ (x ++ e)
 over-at p y x e at size lp ly lx =
-    let t : take at (p ++ (y ++ e)) ≡ p = take_at_lem p (y ++ e) at lp in
+    let t : take at (p ++ (y ++ e)) ≡ p = take_at p (y ++ e) at lp in
     let d : drop (at + length x) (p ++ (y ++ e)) ≡ e =
     ap (drop (at + length x)) (sym (append_assoc p y e)) ∙ drop_at (p ++ y) e (at + length x) (rw (length-append, lp, ly, lx)) in
     λ i. t i ++ (x ++ d i)

@@ -45,7 +45,7 @@ pub record StoreOk (n : ℕ) (ts : List Thread) (f : ℕ → ℕ) (s : ObjectSto
   pub overflow : s.overflow ≡ false
 
 pub parts-store : (k : Kernel) → Parts k → StoreOk k.thread_count k.threads (names k.handles k.threads) k.objects
-parts-store k p = record { ob = p.ob; contents = p.contents; chains = p.chains; fits = p.storeFits; full = p.clean.2; overflow = p.clean.3 }
+parts-store k p = record { ob = p.ob; contents = p.contents; chains = p.chains; fits = p.store_fits; full = p.clean.2; overflow = p.clean.3 }
 
 -- more threads, the live ones still live, and names counted the same
 pub store-more : (n n' : ℕ) (ts ts' : List Thread) (f f' : ℕ → ℕ) (s : ObjectStore) → n ≤ n' → ((t : ℕ) → Live ts t → Live ts' t) → ((o : ℕ) → 0 < o → f' o ≡ f o)
@@ -209,7 +209,7 @@ module _ (k : Kernel) (entry stack priority processor : ℕ) (p : Parts k) (we :
 
   guest-fits : (q : Bool) → ltb k.next_guest_id 4294967295 ≡ q → Word (pick q (k.next_guest_id + 1) k.next_guest_id)
   guest-fits true e = omega (arith, ltb-true k.next_guest_id 4294967295 e)
-  guest-fits false e = p.nextGuest
+  guest-fits false e = p.next_guest
 
   made-names : (o : ℕ) → 0 < o → names k.handles (set k.threads (ended_thread k) made) o ≡ names k.handles k.threads o
   made-names =
@@ -240,9 +240,9 @@ module _ (k : Kernel) (entry stack priority processor : ℕ) (p : Parts k) (we :
             (new-place m k.current_thread i entry stack (least priority 63) processor (tls_slot k) k.next_guest_id g.new (least-le priority 63)) (others n i m k.current_thread ts made g) p.threads;
         tls = t;
         store_fits = s.fits;
-        table_fits = p.tableFits;
+        table_fits = p.table_fits;
         nt = length-set ts i made ∙ p.nt;
-        threads_fit = all_set ThreadFits ts i (new-fits entry stack (least priority 63) processor (tls_slot k) k.next_guest_id we ws (least-le priority 63) wp (tls-small k) p.nextGuest) p.threadsFit;
+        threads_fit = all_set ThreadFits ts i (new-fits entry stack (least priority 63) processor (tls_slot k) k.next_guest_id we ws (least-le priority 63) wp (tls-small k) p.next_guest) p.threads_fit;
         status = p.status;
         thread_count = omega (arith, g.most);
         current = p.current;

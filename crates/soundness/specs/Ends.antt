@@ -124,15 +124,15 @@ module _ (k : Kernel) (t : ℕ) (l : t < k.thread_count) (p : Parts k) where
             (record { used = λ q. record { priority = used.priority; run = used.run; list = no-list old; only = only_none old.status }; unused = λ q. absurd (omega arith) })
             (record { run = λ j e s r. r; used = λ j e q. q; unused = λ j e q. q }) p.threads;
         tls = tls-same ts k.next_tls_slot t v in_list refl refl p.tls;
-        store_fits = releases-fits os k.objects (places-words old.wait_count (ids old.wait_objects) used.list) p.storeFits;
-        table_fits = p.tableFits;
+        store_fits = releases-fits os k.objects (places-words old.wait_count (ids old.wait_objects) used.list) p.store_fits;
+        table_fits = p.table_fits;
         nt = length-set ts t v ∙ p.nt;
-        threads_fit = all_set ThreadFits ts t (clear_wait-fits old (fits-at ts t in_list p.threadsFit)) p.threadsFit;
+        threads_fit = all_set ThreadFits ts t (clear_wait-fits old (fits-at ts t in_list p.threads_fit)) p.threads_fit;
         status = p.status;
-        thread_count = p.threadCount;
+        thread_count = p.thread_count;
         current = p.current;
-        next_tls = p.nextTls;
-        next_guest = p.nextGuest;
+        next_tls = p.next_tls;
+        next_guest = p.next_guest;
         clean = (p.clean.0, p.clean.1, releases-full k.objects os ∙ p.clean.2, releases-overflow k.objects os ∙ p.clean.3, p.clean.4, p.clean.5);
       }
 
@@ -271,16 +271,16 @@ module _ (k : Kernel) (t : ℕ) (l : t < k.thread_count) (w : (thread_at k.threa
             (record { used = λ q. record { priority = u.priority; run = left_not c t; list = u.list; only = w }; unused = λ q. absurd (omega arith) })
             (record { run = λ j x s r. left-run c t j x s r; used = λ j x q. q; unused = λ j x q. q }) p.threads;
         tls = tls-ended ts k.next_tls_slot t v i refl p.tls;
-        store_fits = with_slots-fits k.objects p.storeFits (map g k.objects.slots)
-            (all_slots g (λ x f. slot_of (disowned t x.object) x.refcount x.pulsed (disowned-fits t x.object (of-slot x f)) f.1.0) k.objects.slots p.storeFits.slots);
-        table_fits = p.tableFits;
+        store_fits = with_slots-fits k.objects p.store_fits (map g k.objects.slots)
+            (all_slots g (λ x f. slot_of (disowned t x.object) x.refcount x.pulsed (disowned-fits t x.object (of-slot x f)) f.1.0) k.objects.slots p.store_fits.slots);
+        table_fits = p.table_fits;
         nt = length-set ts t v ∙ p.nt;
-        threads_fit = all_set ThreadFits ts t (ended-fits old (fits-at ts t i p.threadsFit)) p.threadsFit;
+        threads_fit = all_set ThreadFits ts t (ended-fits old (fits-at ts t i p.threads_fit)) p.threads_fit;
         status = p.status;
-        thread_count = p.threadCount;
+        thread_count = p.thread_count;
         current = left_word (is_current c t) c p.current;
-        next_tls = p.nextTls;
-        next_guest = p.nextGuest;
+        next_tls = p.next_tls;
+        next_guest = p.next_guest;
         clean = p.clean;
       }
 

@@ -142,7 +142,7 @@ module _ (s : ObjectStore) (f : StoreFits s) where
 
   -- ---- slots anew
   pub with_slots-fits : (l : List Slot) → All SlotFits l → StoreFits (with_slots s l)
-  with_slots-fits l a = record { slots = a; free = f.free; waiters = f.waiters; free_waiter = f.freeWaiter; ids = f.ids; process = f.process }
+  with_slots-fits l a = record { slots = a; free = f.free; waiters = f.waiters; free_waiter = f.free_waiter; ids = f.ids; process = f.process }
 
   put-fits : (o : ℕ) (x : KObject) (r : ℕ) → KeepsFit x → Word r → All SlotFits (slot_put s.slots o (record { object = x; refcount = r; pulsed = (slot_at s.slots o).pulsed }))
   put-fits o x r k w = all-slot_put SlotFits s.slots o _ (slot_of x r (slot_at s.slots o).pulsed k w) f.slots
@@ -163,7 +163,7 @@ module _ (s : ObjectStore) (f : StoreFits s) where
     slots = put-fits s.free v 1 k (omega arith);
     free = next_fits (object_at s s.free) (object-at-fits s.free);
     waiters = f.waiters;
-    free_waiter = f.freeWaiter;
+    free_waiter = f.free_waiter;
     ids = f.ids;
     process = f.process;
   }
@@ -224,7 +224,7 @@ module _ (s : ObjectStore) (f : StoreFits s) where
   chain-small o = walk-small (waiter_nexts s.waiters) 64 (head_of (object_at s o)) (nexts-small s.waiters f.waiters) (head-fits (object_at s o) (object-at-fits s f o))
 
   unlinked-fits : (keep : ℕ → Bool) (o : ℕ) → LinksFit (unlinked keep s o)
-  unlinked-fits keep o = unlink-fits keep s.waiters s.free_waiter (chain_of s o) (chain-small o) f.waiters f.freeWaiter
+  unlinked-fits keep o = unlink-fits keep s.waiters s.free_waiter (chain_of s o) (chain-small o) f.waiters f.free_waiter
 
   release-fits_if : (q : Bool) (o : ℕ) → Word o → StoreFits (release_if q s o)
   unfolding release_if
@@ -254,9 +254,9 @@ module _ (s : ObjectStore) (f : StoreFits s) where
   pushed-fits o t a wt wa =
       let l = waiter_at-fits s.waiters (last_of (chain_of s o)) f.waiters in
       record {
-        slots = put-fits s f o _ _ (with_head-fits (object_at s o) _ (object-at-fits s f o) (first_small (chain_of s o) s.free_waiter (chain-small o) f.freeWaiter)) (ref-at-fits s f o);
+        slots = put-fits s f o _ _ (with_head-fits (object_at s o) _ (object-at-fits s f o) (first_small (chain_of s o) s.free_waiter (chain-small o) f.free_waiter)) (ref-at-fits s f o);
         free = f.free;
-        waiters = all-waiter_put WaiterFits _ s.free_waiter _ (wt, (wa, (z4, tt))) (all-waiter_put WaiterFits s.waiters (last_of (chain_of s o)) _ (l.0, (l.1.0, (f.freeWaiter, tt))) f.waiters);
+        waiters = all-waiter_put WaiterFits _ s.free_waiter _ (wt, (wa, (z4, tt))) (all-waiter_put WaiterFits s.waiters (last_of (chain_of s o)) _ (l.0, (l.1.0, (f.free_waiter, tt))) f.waiters);
         free_waiter = (waiter_at-fits s.waiters s.free_waiter f.waiters).1.1.0;
         ids = f.ids;
         process = f.process;
@@ -275,7 +275,7 @@ module _ (s : ObjectStore) (f : StoreFits s) where
   thread-fits_if : (q : Bool) (t : ℕ) → Word t → StoreFits (pick q (with_kept (insert s (Thread t)) (set s.thread_objects t (record { 0 = s.free }))) s)
   thread-fits_if true t w =
       let i = insert-fits s f (Thread t) (thread-fits t w) in
-      record { slots = i.slots; free = i.free; waiters = i.waiters; free_waiter = i.freeWaiter; ids = all_set IdFits s.thread_objects t f.free f.ids; process = i.process }
+      record { slots = i.slots; free = i.free; waiters = i.waiters; free_waiter = i.free_waiter; ids = all_set IdFits s.thread_objects t f.free f.ids; process = i.process }
   thread-fits_if false t w = f
 
   pub thread_object-fits : (t : ℕ) → Word t → StoreFits (thread_object s t)
@@ -285,7 +285,7 @@ module _ (s : ObjectStore) (f : StoreFits s) where
   process-fits_if : (q : Bool) → StoreFits (pick q (with_process (insert s Process) (record { 0 = s.free })) s)
   process-fits_if true =
       let i = insert-fits s f Process process-fits in
-      record { slots = i.slots; free = i.free; waiters = i.waiters; free_waiter = i.freeWaiter; ids = i.ids; process = f.free }
+      record { slots = i.slots; free = i.free; waiters = i.waiters; free_waiter = i.free_waiter; ids = i.ids; process = f.free }
   process-fits_if false = f
 
   pub process_object-fits : StoreFits (process_object s)
@@ -294,7 +294,7 @@ module _ (s : ObjectStore) (f : StoreFits s) where
 
 -- a kept object let go
 pub unkept-fits : (s : ObjectStore) (t : ℕ) → StoreFits s → StoreFits (unkept s t)
-unkept-fits s t f = record { slots = f.slots; free = f.free; waiters = f.waiters; free_waiter = f.freeWaiter; ids = all_set IdFits s.thread_objects t z4 f.ids; process = f.process }
+unkept-fits s t f = record { slots = f.slots; free = f.free; waiters = f.waiters; free_waiter = f.free_waiter; ids = all_set IdFits s.thread_objects t z4 f.ids; process = f.process }
 
 abbrev pub CurrentFits : ThreadOption → Type 0
 CurrentFits NoThread = Unit {0}

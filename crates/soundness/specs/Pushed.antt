@@ -167,6 +167,6 @@ unfolding count
 pushed-blanks s o r t a s' d b =
     at-blanks (waiter_threads s'.waiters) (waiter_addresses s'.waiters) (free_chain s')
     (λ x z.
-    let n : x ≢ r = λ e. omega (arith, d.outFree, ap (λ (k : ℕ). count k (free_chain s')) e) in
+    let n : x ≢ r = λ e. omega (arith, d.out_free, ap (λ (k : ℕ). count k (free_chain s')) e) in
     let f = blanks_at (waiter_threads s.waiters) (waiter_addresses s.waiters) (free_chain s) b x (omega (arith, ap (count x) d.frees)) in
     (ap (λ (y : List ℕ). at y x) d.threads ∙ at-put-other (waiter_threads s.waiters) r x t n ∙ f.0, ap (λ (y : List ℕ). at y x) d.addresses ∙ at-put-other (waiter_addresses s.waiters) r x a n ∙ f.1))

@@ -73,20 +73,20 @@ parts_fit k p =
       head = (
         p.status,
         (
-          p.threadCount,
+          p.thread_count,
           (
             thread-flag-fits k.current_thread,
             (
               p.current,
               (
-                p.nextTls,
+                p.next_tls,
                 (
-                  p.nextGuest,
+                  p.next_guest,
                   (
                     flag-fits k.all_blocked,
                     (
                       flag-fits k.relief,
-                      (p.storeFits.free, (p.storeFits.freeWaiter, (p.tableFits.count, (p.tableFits.next, (p.storeFits.process, (z, (z, (z, tt)))))))),
+                      (p.store_fits.free, (p.store_fits.free_waiter, (p.table_fits.count, (p.table_fits.next, (p.store_fits.process, (z, (z, (z, tt)))))))),
                     ),
                   ),
                 ),
@@ -96,15 +96,15 @@ parts_fit k p =
         ),
       );
       nt = p.nt;
-      threads = p.threadsFit;
+      threads = p.threads_fit;
       ns = p.ob.ns;
-      slots = p.storeFits.slots;
+      slots = p.store_fits.slots;
       ne = p.table.ne;
-      entries = p.tableFits.entries;
+      entries = p.table_fits.entries;
       nw = p.ob.nw;
-      waiters = p.storeFits.waiters;
+      waiters = p.store_fits.waiters;
       ni = p.ob.ni;
-      thread_objects = p.storeFits.ids;
+      thread_objects = p.store_fits.ids;
       clean = p.clean;
     }
 
@@ -127,4 +127,4 @@ names_of k i = refl
 
 -- in a sound state no count comes near the guard of `add_ref`
 pub few-names : (k : Kernel) → Parts k → (o : ℕ) → names k.handles k.threads o + kept_names k.objects o ≤ 289 + 32 * wait_list
-few-names k p o = names_bound k.handles k.threads k.objects o p.table.ne p.nt p.threadsFit p.ob.ni
+few-names k p o = names_bound k.handles k.threads k.objects o p.table.ne p.nt p.threads_fit p.ob.ni

@@ -55,7 +55,10 @@ module _ (b : List ℕ) (h tick : ℕ) where
   caught = caught_up k tick
 
   same-room : no_room caught h ≡ no_room k h
-  same-room = ap (λ (s : ObjectStore). no_room (with_objects k s) h) (caught_as k.objects k.threads tick) ∙ room-slots k _ _ h
+  same-room =
+      let s : ObjectStore = catch_up_timers k.objects k.threads tick in
+      ap (λ (s : ObjectStore). no_room (with_objects k s) h) (caught_as k.objects k.threads tick)
+      ∙ room-slots k s.slots s.overflow h
 
   pub caught-finding : finding (with_objects caught (resolved caught h).store) ≡ found_of (no_room k h) (caught.objects.overflow or out_of_handles? k)
   caught-finding =

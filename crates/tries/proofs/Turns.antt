@@ -94,7 +94,7 @@ module _ (b : List ℕ) (s : sound? b ≡ true) (tick i : ℕ) where
 
   -- one that is over is that of a thread that lives
   pub lives : is_over fate_of ≡ true → Live k.threads i
-  lives = go fate_of (fate-ok k.threads k.objects tick i (list-short k.threads i parts.threadsFit))
+  lives = go fate_of (fate-ok k.threads k.objects tick i (list-short k.threads i parts.threads_fit))
     where
       go : (f : Fate) → FateOk k.threads i f → is_over f ≡ true → Live k.threads i
       go Stays h q = absurd (true≢false (sym q))

@@ -1,0 +1,8 @@
+use lib.Dec.{eqb}
+use borrow.Author.Rules.{rules}
+use Rattle.block.proofs.slot.event_of.Goals as goal
+
+-- Each field from its number.
+
+pub returns : goal.returns
+returns c = λ i. record { reset_type = c.reset_from_raw-reset.ensures i; signaled = eqb c.args.w.b 1 }

@@ -1,0 +1,13 @@
+use Rattle.block.specs.Table.{enc_entry}
+use Rattle.block.proofs.Row.{start, next, whole}
+use Rattle.block.proofs.Sizes.{length-enc_entry}
+use mathlib.Core.Path.{refl}
+use borrow.Author.Rules.{rules}
+use Rattle.block.proofs.table.put_entry.Goals as goal
+
+-- Two words over the whole part.
+
+pub returns : goal.returns
+unfolding enc_entry
+returns c =
+    whole (next (enc_entry c.args.x) 8 (start c.requires) (length-enc_entry c.args.x) refl c.put_two.ensures)

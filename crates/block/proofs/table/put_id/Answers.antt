@@ -1,0 +1,14 @@
+use Rattle.block.specs.Table.{enc_id}
+use Rattle.codec.specs.Bytes.{bytes}
+use Rattle.codec.proofs.Laws.{length-bytes}
+use mathlib.Core.Path.{refl}
+use Rattle.block.proofs.Row.{start, next, whole}
+use borrow.Author.Rules.{rules}
+use Rattle.block.proofs.table.put_id.Goals as goal
+
+-- One word over the whole part.
+
+pub returns : goal.returns
+unfolding enc_id
+returns c =
+    whole (next (bytes 4 c.args.x.0) 4 (start c.requires) (length-bytes 4 c.args.x.0) refl c.put32.ensures)

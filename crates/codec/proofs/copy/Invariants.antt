@@ -1,0 +1,16 @@
+use Prim.Native.Nat.{◌≤◌, ◌<◌, ◌-◌, ◌+◌}
+use mathlib.Core.Path.{◌≡◌, ◌∙◌}
+use lib.ListN.{length, take, get_or}
+use lib.Seq.{take-length, take-suc, length-take-le}
+use native.Mathlib.Omega.{arith}
+use native.Mathlib.Numerals.{add-one}
+use borrow.Author.Rules.{rules}
+use Rattle.codec.specs.Bytes.{over}
+use Rattle.codec.proofs.Laws.{over_none, over-more}
+use Rattle.codec.proofs.copy.Given as goal
+
+abbrev pub invariant-loop-i : goal.invariant-loop-i
+invariant-loop-i l = (l.i ≤ length l.src) × (length l.b ≡ length l.initial.b) × (l.b ≡ over l.initial.b l.at (take l.i l.src))
+
+abbrev pub decreases-loop-i : goal.decreases-loop-i
+decreases-loop-i l = length l.src - l.i

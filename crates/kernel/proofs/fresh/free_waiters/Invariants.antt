@@ -1,0 +1,16 @@
+use mathlib.Core.Path.{◌≡◌, refl, sym, ◌∙◌}
+use mathlib.Core.List.{◌++◌, append-nil}
+use Prim.Native.Nat.{◌+◌, ◌-◌, ◌≤◌}
+use native.Mathlib.Omega.{arith}
+use lib.ListN.{length, take}
+use lib.Seq.{take_all}
+use Rattle.kernel.specs.Fresh.{in_row, free_waiter, free_waiters}
+use Rattle.kernel.proofs.Rows.{row_step, row-end}
+use borrow.Author.Rules.{rules}
+use Rattle.kernel.proofs.fresh.free_waiters.Given as goal
+
+abbrev pub invariant-loop-i : goal.invariant-loop-i
+invariant-loop-i l = (l.i ≤ 64) × ((length l.l ≡ 64) × (take l.i l.l ++ in_row free_waiter (64 - l.i) (l.i + 2) ≡ in_row free_waiter 64 2))
+
+abbrev pub decreases-loop-i : goal.decreases-loop-i
+decreases-loop-i l = 64 - l.i

@@ -1,0 +1,19 @@
+use mathlib.Core.Path.{sym, ◌∙◌}
+use borrow.Author.Tests.{not-true, not-false}
+use native.Mathlib.Omega.{arith}
+use lib.ListN.{length-map}
+use Rattle.laws.specs.Tally.{tally}
+use Rattle.units.specs.declared.ObjectId.{ObjectId}
+use borrow.Author.Rules.{rules}
+use Rattle.kernel.proofs.next_event.mark_list.Goals as goal
+
+pub returns-then-not-blocked : goal.returns-then-not-blocked
+unfolding tally
+returns-then-not-blocked c =
+    let e = sym c.blocked.ensures ∙ c.if-not-blocked.true in
+    record { m_after = rw e; t_len_bound = rw e (omega arith) }
+
+pub returns : goal.returns
+returns c =
+    let e = sym c.blocked.ensures ∙ c.if-not-blocked.false in
+    record { m_after = rw e c.tally_list.ensures.c_after; t_len_bound = rw e (omega (arith, c.tally_list.ensures.l_len, length-map c.args.t.wait_objects (λ (o : ObjectId). o.0))) }

@@ -1,0 +1,13 @@
+use mathlib.Core.Path.{sym, ◌∙◌}
+use Rattle.laws.specs.Logic.{and-end}
+use Rattle.sound.specs.Tls.{below?}
+use borrow.Author.Rules.{rules}
+use Rattle.question.proofs.tls.slot_below.Goals as goal
+
+pub returns-then-is_dead : goal.returns-then-is_dead
+unfolding below?
+returns-then-is_dead c = rw (sym c.is_dead.ensures ∙ c.if-is_dead.true)
+
+pub returns : goal.returns
+unfolding below?
+returns c = rw (sym c.is_dead.ensures ∙ c.if-is_dead.false) (sym (and-end _))

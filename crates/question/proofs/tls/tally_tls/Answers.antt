@@ -1,0 +1,33 @@
+use mathlib.Core.Path.{◌≡◌, refl, ap, sym, ◌∙◌}
+use Prim.Native.Nat.{◌-◌, ◌≤◌, ◌<◌}
+use native.Mathlib.Omega.{arith}
+use lib.ListN.{length, drop}
+use Rattle.laws.specs.Tally.{tally}
+use Rattle.block.specs.Thread.{dec_thread}
+use Rattle.block.specs.Tables.{threads_in, row_at}
+use Rattle.codec.proofs.Fit.{length-dec_all}
+use Rattle.sound.specs.View.{no_thread}
+use Rattle.sound.specs.Tls.{held, held-end}
+use Rattle.tally.proofs.Held.{tally-held}
+use borrow.Author.Rules.{rules}
+use Rattle.question.proofs.tls.tally_tls.Goals as goal
+
+pub loop-i-init : goal.loop-i-init
+loop-i-init c = (search rules, refl)
+
+pub loop-i-preserved : goal.loop-i-preserved
+loop-i-preserved c =
+    let l = c.loop-i in
+    let b = c.args.b.now in
+    let n : length (threads_in b) ≡ 32 = length-dec_all dec_thread 160 32 b 128 in
+    let h : l.i < length (threads_in b) = omega arith in
+    let t = c.thread_at.ensures ∙ row_at dec_thread 160 no_thread 32 b 128 l.i (omega arith) in
+    (search rules, rw (c.tally_slot.ensures, t) (sym (tally-held (threads_in b) l.i h 129 l.m) ∙ l.invariant.1))
+
+pub returns : goal.returns
+unfolding tally
+returns c =
+    let l = c.loop-i in
+    let b = c.args.b.now in
+    let e : length (threads_in b) ≤ l.i = omega (arith, length-dec_all dec_thread 160 32 b 128) in
+    sym (ap (tally 129 l.m) (held-end (threads_in b) l.i e)) ∙ l.invariant.1

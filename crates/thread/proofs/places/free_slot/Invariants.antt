@@ -1,0 +1,15 @@
+use mathlib.Core.Path.{◌≡◌, sym, ◌∙◌}
+use Prim.Native.Nat.{◌-◌, ◌≤◌}
+use native.Mathlib.Numerals.{unary_clauses}
+use Rattle.laws.specs.Logic.{pick_yes, pick_no}
+use borrow.Author.Tests.{eq-eqb, ne_eqb}
+use Rattle.thread.specs.Marks.{free_marked}
+use Rattle.thread.proofs.Steps.{free_step, free-end}
+use borrow.Author.Rules.{rules}
+use Rattle.thread.proofs.places.free_slot.Given as goal
+
+abbrev pub invariant-loop-i : goal.invariant-loop-i
+invariant-loop-i l = (l.i ≤ l.n) × (free_marked l.m (l.n - l.i) l.i ≡ free_marked l.m l.n 0)
+
+abbrev pub decreases-loop-i : goal.decreases-loop-i
+decreases-loop-i l = l.n - l.i

@@ -1,0 +1,5 @@
+use mathlib.Core.Path.{refl}
+use Rattle.thread.proofs.thread.cleared.Goals as goal
+
+pub returns : goal.returns
+returns c = refl
