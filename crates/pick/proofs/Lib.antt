@@ -1,4 +1,3 @@
 -- The laws that the proofs of `pick` cite.
 pub mod Steps
 pub mod Turns
-pub mod Row

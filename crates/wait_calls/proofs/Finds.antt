@@ -1,5 +1,5 @@
 -- Counts of the objects that a list of handles names: before the timers fire and the handles are opened, and after. Assumes nothing.
-use mathlib.Core.Path.{◌≡◌, refl, ap, ◌∙◌}
+use mathlib.Core.Path.{◌≡◌, refl, ap, sym, subst, ◌∙◌}
 use mathlib.Core.Bool.{Bool, true, false}
 use mathlib.Core.List.{List, [], ◌∷◌, map}
 use mathlib.Core.Logic.{inl, inr}
@@ -86,7 +86,10 @@ opened-near (h ∷ hs) k p e c a =
     let p1 = resolved-parts k p h b in
     let n = eqb-false o 0 d in
     let z : 0 < o = omega arith in
-    rw d (
+    let r : ObjectStore = store_of (with_objects k s) hs in
+    let os : List ℕ = o ∷ objects_of (with_objects k s) hs in
+    let after : Bool → Type 0 = λ t. All (λ i. near (object_at (pick t s r) i) ≡ false) os in
+    subst after (sym d) (
       ap near (stays hs (with_objects k s) p1 f o z (resolved-named k p h b z)) ∙ own-near k p h b (pseudo h) refl a.0,
       opened-near hs (with_objects k s) p1 f q.1 (all_as (λ i. near (object_at k.objects (open_object k i)) ≡ false) (λ i. near (object_at s (open_object k i)) ≡ false) (λ i g. other-near k p h b i g) hs a.1),
     )

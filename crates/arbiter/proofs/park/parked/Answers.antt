@@ -1,0 +1,5 @@
+use borrow.Author.Rules.{rules}
+use Rattle.arbiter.proofs.park.parked.Goals as goal
+
+pub returns : goal.returns
+returns c = rw c.without_wait-c.ensures

@@ -1,0 +1,10 @@
+use mathlib.Core.Path.{sym, ◌∙◌}
+use Rattle.laws.specs.Logic.{or_yes, or_no}
+use borrow.Author.Rules.{rules}
+use Rattle.due.proofs.may_change.Goals as goal
+
+pub returns-then-s : goal.returns-then-s
+returns-then-s c = sym (or_yes _ _ c.if-s.true)
+
+pub returns : goal.returns
+returns c = c.slot_due.ensures ∙ sym (or_no _ _ c.if-s.false)

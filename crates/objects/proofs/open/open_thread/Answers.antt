@@ -1,0 +1,40 @@
+use mathlib.Core.Path.{refl, ap, sym, subst, ◌∙◌}
+use Prim.Native.Nat.{ℕ}
+use lib.Dec.{ltb}
+use Rattle.laws.specs.Logic.{pick}
+use Rattle.sound.specs.Objects.{kept_at}
+use Rattle.codec.specs.Layout.{dec_as}
+use Rattle.units.specs.declared.ObjectId.{ObjectId}
+use Rattle.types.specs.declared.object.ObjectStore.{ObjectStore}
+use Rattle.types.specs.declared.object.KObject.TheVariants.{Thread}
+use Rattle.block.specs.Block.{dec_block}
+use Rattle.object.specs.Slots.{with_process}
+use Rattle.object.specs.Store.{insert}
+use Rattle.object.specs.Kept.{of_current}
+use Rattle.svc.specs.Call.{with_objects}
+use Rattle.rows.specs.Holds.{Holds}
+use Rattle.objects.proofs.Opened.{opens_same, thread-kept, thread-finding, opens_refused, opens_thread}
+use Rattle.types.specs.declared.thread.ThreadOption.TheVariants.{SomeThread}
+use borrow.Author.Rules.{rules}
+use Rattle.objects.proofs.open.open_thread.Goals as goal
+
+pub returns-then-o-ne0 : goal.returns-then-o-ne0
+returns-then-o-ne0 c = let b = c.args.block.now in
+    let s = c.requires.block_value in
+    let e = thread-kept b s c.args.t (λ z. c.if-o-ne0.true (c.kept_at-o.ensures ∙ z)) in
+    opens_same b s (of_current (dec_block b).objects (SomeThread c.args.t)) c.there.result e
+    (ap (λ (x : ObjectId). x.0) c.there.ensures.object_value ∙ c.kept_at-o.ensures ∙ ap (λ (y : ObjectStore). kept_at y c.args.t) (sym e)) c.there.ensures.found_value
+
+pub returns-then-found-ne0 : goal.returns-then-found-ne0
+returns-then-found-ne0 c = let b = c.args.block.now in
+    let s = c.requires.block_value in
+    opens_refused b s (of_current (dec_block b).objects (SomeThread c.args.t)) _ c.found_making-found.ensures (thread-finding b s c.args.t (sym c.kept_at-o.ensures ∙ c.if-o-ne0.false)) c.if-found-ne0.true
+
+pub returns : goal.returns
+unfolding dec_block dec_as
+returns c = let b = c.args.block.now in
+    let s = c.requires.block_value in
+    let p = sym c.kept_at-o.ensures ∙ c.if-o-ne0.false in
+    let h = subst (λ (n : ℕ). Holds c.put_inserted.new.block (with_objects (dec_block b) (with_process (insert (dec_block b).objects (Thread c.args.t)) (record { 0 = n })))) c.get32-process.ensures c.put_inserted.ensures in
+    rw (c.put_kept.ensures, c.get32-free.ensures)
+    (opens_thread b s c.args.t _ _ p (c.kept_after.ensures ∙ ap (λ (n : ℕ). pick (ltb c.args.t 32) n 0) c.get32-free.ensures) refl (sym c.found_making-found.ensures ∙ c.if-found-ne0.false) h)

@@ -1,0 +1,13 @@
+use mathlib.Core.Path.{◌∙◌}
+use Rattle.rows.specs.Head.{sound-head}
+use Rattle.rows.specs.Holds.{holds}
+use Rattle.objects.proofs.Made.{inserted}
+use borrow.Author.Rules.{rules}
+use Rattle.objects.proofs.open.put_inserted.Goals as goal
+
+pub returns : goal.returns
+returns c = let b = c.args.block.now in
+    let s = c.requires.block_value in
+    let h = c.get_head-head in
+    rw (c.put_head.ensures, c.put_slot.ensures)
+    (inserted b _ (holds b s) c.args.v c.args.process.0 h.result (h.ensures ∙ sound-head b s) c.slot_at-old.result c.slot_at-old.ensures c.next_of-next.result c.next_of-next.ensures)

@@ -1,0 +1,15 @@
+use borrow.Author.Rules.{rules}
+use mathlib.Core.Path.{◌≡◌, refl, sym, ◌∙◌}
+use Prim.Native.Nat.{◌-◌, ◌≤◌}
+use native.Mathlib.Omega.{arith}
+use lib.ListN.{length, drop}
+use Rattle.laws.specs.Logic.{or_yes, or_no}
+use Rattle.pick.proofs.Steps.{others-step, others-end}
+use Rattle.pass.specs.Pick.{others_from}
+use Rattle.pick.proofs.others_ready.Given as goal
+
+abbrev pub invariant-loop-i : goal.invariant-loop-i
+invariant-loop-i l = (l.i ≤ 32) × (others_from l.c l.i (drop l.i l.ts) ≡ others_from l.c 0 l.ts)
+
+abbrev pub decreases-loop-i : goal.decreases-loop-i
+decreases-loop-i l = 32 - l.i

@@ -1,0 +1,18 @@
+use mathlib.Core.Path.{◌≡◌, refl, subst}
+use mathlib.Core.List.{List}
+use Prim.Native.Nat.{ℕ, ◌+◌, ◌-◌, ◌≤◌}
+use native.Mathlib.Omega.{arith}
+use lib.ListN.{length, take, drop, get_or}
+use Rattle.block.specs.Block.{dec_block}
+use Rattle.sound.specs.View.{ids}
+use Rattle.object.proofs.Laws.{list_at, list-end, list_over}
+use Rattle.release.proofs.Released.{Releasing, release-more, release-end}
+use borrow.Author.Rules.{rules}
+use Rattle.types.specs.Thread.{wait_list}
+use Rattle.release.proofs.release_list.Given as goal
+
+abbrev pub invariant-loop-i : goal.invariant-loop-i
+invariant-loop-i l = (l.i ≤ wait_list) × ((length l.block ≡ 16384) × Releasing (dec_block l.initial.block) (take l.n (ids l.l)) l.block (drop l.i (take l.n (ids l.l))))
+
+abbrev pub decreases-loop-i : goal.decreases-loop-i
+decreases-loop-i l = wait_list - l.i

@@ -1,0 +1,5 @@
+use borrow.Author.Rules.{rules}
+use Rattle.signal.proofs.timer.fired_timer.Goals as goal
+
+pub returns : goal.returns
+returns c = rw c.due_again-next.ensures

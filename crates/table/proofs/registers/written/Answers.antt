@@ -1,0 +1,5 @@
+use borrow.Author.Rules.{rules}
+use Rattle.table.proofs.registers.written.Goals as goal
+
+pub returns : goal.returns
+returns c = rw (← c.bit.ensures) c.written_as.ensures
