@@ -18,7 +18,7 @@ BLOCKS = 8
 ROUNDS = 101
 
 # another library may be given in place of the proved one
-PROVED = target/staticlib/libhost.a
+PROVED = crates/host/out/libhost.a
 KERNEL_LIB = $(PROVED)
 
 C = target/c
@@ -34,11 +34,11 @@ HOSTILE = bench/hostile bench/clock bench/host tests/made_block tests/fresh_bloc
 all: host-test
 
 test:
-	rt check
+	rt all check
 	$(MAKE) host-test flip-fresh
 
 staticlib:
-	rt staticlib host
+	cd crates/host && rt lib
 
 $(PROVED): staticlib
 
@@ -125,6 +125,6 @@ $(C)/obj/%.o: %.c $(wildcard include/*.h tests/*.h bench/*.h)
 	$(CC) $(CFLAGS) -c -o $@ $<
 
 clean:
-	rm -rf target oracle/target
+	rm -rf target oracle/target crates/*/out
 
 .PHONY: all test staticlib host-test demo flip-fresh flips bench growth hostile bench-original profile wrong-kernels original oracle differential record blocks clean

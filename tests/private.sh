@@ -13,9 +13,9 @@ failed=0
 
 # what the compiler says of the body of a function from nanoseconds and ticks to ticks; WANTED is its error, none if it is to be taken
 try() { # WANTED BODY
-    printf 'use units::Nanos;\nuse units::Ticks;\n\npub fn other(n: Nanos, t: Ticks) -> Ticks {\n    %s\n}\n' "$2" \
+    printf '#![tactic(auto)]\n\nuse units::{Nanos, Ticks};\n\npub fn other(n: Nanos, t: Ticks) -> Ticks {\n    %s\n}\n' "$2" \
         > "$dir/crates/other/src/lib.rt"
-    log=$(cd "$dir" && rt mir other 2>&1)
+    log=$(cd "$dir/crates/other" && rt check 2>&1)
     code=$?
     said=$(echo "$log" | sed -n 's/^.*: error\[\([a-z-]*\)\].*/\1/p' | head -n 1)
     if [ "$code" -eq 0 ]; then said=none; fi

@@ -9,27 +9,27 @@ cd "$(dirname "$0")/.." || exit 2
 [ $# -gt 0 ] || set -- $(ls wrong/kernels | sed 's/\.patch$//')
 jobs=${JOBS:-2}
 out=target/wrong
-# the unchanged tree comes first: what a patch does not touch is not proved again
-rt check history || exit 2
+# the unchanged tree comes first: rt begins in a copy with what its checks kept here, so what a patch does not touch is not proved again
+(cd crates/history && rt check) || exit 2
 rm -rf "$out"
 mkdir -p "$out"
-crates=history
-for c in $(sed -n 's/^history: *//p' crates.txt); do crates="$crates $c"; done
+# not below this folder: rt ci takes no second crates.txt, and no file of specs/ but the crates' own
+copies=$(mktemp -d)
+trap 'rm -rf "$copies"' EXIT
 
-# the copy as the tree is, with its proofs
+# the copy as the tree is; what its own checks kept stays
 restore() { # COPY
-    mkdir -p "$1/target/rlib" "$1/target/stamp"
-    rm -rf "$1/crates"
-    cp -R crates crates.txt "$1"
+    mkdir -p "$1/crates"
+    cp crates.txt "$1"
+    for c in $(ls crates); do
+        for part in src specs proofs; do
+            rm -rf "$1/crates/$c/$part"
+            [ ! -d "crates/$c/$part" ] || { mkdir -p "$1/crates/$c" && cp -R "crates/$c/$part" "$1/crates/$c"; }
+        done
+    done
     # computed examples would refuse most of them first
     for f in demand/specs/Witness history/specs/Plays history/specs/Witness; do rm "$1/crates/$f.antt"; done
     for f in demand history; do sed -i '/^pub mod \(Plays\|Witness\)$/d' "$1/crates/$f/specs/Lib.antt"; done
-    for c in $crates; do
-        cmp -s "target/stamp/$c" "$1/target/stamp/$c" && continue
-        rm -rf "$1/target/rlib/$c.rlib"
-        cp -R "target/rlib/$c.rlib" "$1/target/rlib/$c.rlib"
-        cp "target/stamp/$c" "$1/target/stamp/$c"
-    done
 }
 
 # one patch; its result is the file NAME.result
@@ -41,11 +41,12 @@ try() { # COPY NAME
     start=$(date +%s)
     if ! patch -s -p1 -d "$1" < "wrong/kernels/$2.patch" > "$log" 2>&1; then
         seen="the patch does not apply"
-    elif (cd "$1" && RT_JOBS=1 rt check "$crate") > "$log" 2>&1; then
+    elif (cd "$1/crates/$crate" && rt check --jobs 1) > "$log" 2>&1; then
         seen="proved"
     else
-        # the file and the law of the first error
-        seen=$(sed -n 's|^.*/\(crates/[^ :]*\):[0-9]*:[0-9]*: [^`]*`\([^`]*\)`.*|\1 \2|p' "$log" | head -n 1)
+        # the crate that is not proved, the file and the law of the first error
+        fails=$(sed -n 's/^rt: the library \([a-z0-9_]*\) did not build.*/\1/p' "$log" | head -n 1)
+        seen=$(sed -n "s|^\./\([^ :]*\):[0-9]*:[0-9]*: error: \`\([^\`]*\)\`.*|crates/${fails:-$crate}/\1 \2|p" "$log" | head -n 1)
     fi
     [ "$seen" = "$wants" ] && word=refused || word="NOT AS SAID ($wants)"
     echo "$2: $word: $seen ($(($(date +%s) - start)) s)" > "$out/$2.result"
@@ -57,7 +58,7 @@ worker() { # NUMBER NAME..
     shift
     i=0
     for name in "$@"; do
-        [ $((i % jobs)) -eq "$mine" ] && try "$out/$mine" "$name"
+        [ $((i % jobs)) -eq "$mine" ] && try "$copies/$mine" "$name"
         i=$((i + 1))
     done
 }

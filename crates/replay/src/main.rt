@@ -6,11 +6,15 @@ mod calls;
 mod replay;
 
 use sample::tally;
+use std::io::{self, Read};
 
-fn main() {
-    let mut text = [0u8; 262144];
-    let n = io::read_full(0, &mut text);
+// Of a longer record only this many bytes are read.
+const MOST: u64 = 262144;
+
+fn main(rt: HostRuntime) -> io::Result<()> {
+    let mut text = Vec::new(rt.alloc());
+    rt.reader().take(MOST).read_to_end(&mut text)?;
     let mut counts = [0u32; 32];
-    tally::print(replay::replay(&text[..n], &mut counts));
-    tally::print_counts(&counts);
+    tally::print(&rt, replay::replay(&text, &mut counts))?;
+    tally::print_counts(&rt, &counts)
 }

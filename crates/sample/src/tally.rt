@@ -1,4 +1,5 @@
 // What was replayed, and what differed.
+use std::io;
 
 #[derive(Clone, Copy)]
 pub struct Tally {
@@ -24,7 +25,7 @@ pub fn none() -> Tally {
 }
 
 fn next(n: u32) -> u32 {
-    std::num::wrapping_add_u32(n, 1)
+    n.wrapping_add(1)
 }
 
 pub fn line(t: Tally) -> Tally {
@@ -106,46 +107,47 @@ pub fn count(counts: &mut [u32; 32], code: u32) {
     }
 }
 
-fn number(n: u32) {
-    io::print_decimal(1, n as u64);
+fn number(rt: &impl Print, n: u32) -> io::Result<()> {
+    print!(rt; "{n}")
 }
 
-pub fn print(t: Tally) {
-    io::write_all(1, b"replay: ");
-    number(t.operations);
-    io::write_all(1, b" operations of ");
-    number(u32::count_ones(t.profiles));
-    io::write_all(1, b" profiles, ");
-    number(u64::count_ones(t.calls));
-    io::write_all(1, b" guest calls, ");
-    print_differing(t);
+pub fn print(rt: &impl Print, t: Tally) -> io::Result<()> {
+    print!(rt; "replay: ")?;
+    number(rt, t.operations)?;
+    print!(rt; " operations of ")?;
+    number(rt, t.profiles.count_ones())?;
+    print!(rt; " profiles, ")?;
+    number(rt, t.calls.count_ones())?;
+    print!(rt; " guest calls, ")?;
+    print_differing(rt, t)
 }
 
-fn print_differing(t: Tally) {
-    number(t.differing);
-    io::write_all(1, b" differing\n");
+fn print_differing(rt: &impl Print, t: Tally) -> io::Result<()> {
+    number(rt, t.differing)?;
+    println!(rt; " differing")?;
     if t.differing != 0 {
-        io::write_all(1, b"the first in line ");
-        number(t.first);
-        io::write_all(1, b"\n");
+        print!(rt; "the first in line ")?;
+        number(rt, t.first)?;
+        println!(rt)?;
     }
+    Ok(())
 }
 
-fn print_count(code: usize, n: u32) {
+fn print_count(rt: &impl Print, code: usize, n: u32) -> io::Result<()> {
     if n != 0 {
-        number(n);
-        io::write_all(1, b" answered ");
-        io::print_decimal(1, code as u64);
-        io::write_all(1, b"\n");
+        number(rt, n)?;
+        println!(rt; " answered {code}")?;
     }
+    Ok(())
 }
 
-pub fn print_counts(counts: &[u32; 32]) {
+pub fn print_counts(rt: &impl Print, counts: &[u32; 32]) -> io::Result<()> {
     let mut i = 0;
     while i < 32 {
-        print_count(i, counts[i]);
+        print_count(rt, i, counts[i])?;
         i += 1;
     }
+    Ok(())
 }
 
 // r PROFILE SEED starts a sequence. Refusal 3 is of a number that is no guest call.
