@@ -1,4 +1,3 @@
-use borrow.Author.Rules.{rules}
 use Rattle.acquire.proofs.acquired_mutex.Goals as goal
 
 pub returns : goal.returns

@@ -1,5 +1,4 @@
 use borrow.Author.Tests.{lt-ltb, le-ltb}
-use borrow.Author.Rules.{rules}
 use Rattle.acquire.proofs.one_lock.Goals as goal
 
 pub returns-then-n-lt4294967295 : goal.returns-then-n-lt4294967295

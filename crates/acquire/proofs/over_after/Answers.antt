@@ -1,6 +1,5 @@
 use mathlib.Core.Path.{sym, ◌∙◌}
 use Rattle.laws.specs.Logic.{or_yes, or_no}
-use borrow.Author.Rules.{rules}
 use Rattle.acquire.proofs.over_after.Goals as goal
 
 pub returns-then-before : goal.returns-then-before

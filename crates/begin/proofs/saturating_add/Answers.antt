@@ -4,7 +4,6 @@ use Prim.Native.Nat.{ℕ, ◌+◌, ◌≤◌}
 use native.Mathlib.Omega.{arith}
 use lib.Dec.{ltb}
 use borrow.Author.Tests.{le-ltb, ltb-false}
-use borrow.Author.Rules.{rules}
 use Rattle.laws.specs.Logic.{pick}
 use Rattle.begin.proofs.saturating_add.Goals as goal
 

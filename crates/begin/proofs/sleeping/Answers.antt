@@ -1,4 +1,3 @@
-use borrow.Author.Rules.{rules}
 use Rattle.begin.proofs.sleeping.Goals as goal
 
 pub returns : goal.returns

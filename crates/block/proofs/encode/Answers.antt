@@ -12,7 +12,6 @@ use Rattle.block.specs.Slot.{enc_slot}
 use Rattle.block.specs.Block.{enc_head, enc_block}
 use Rattle.block.proofs.Row.{start, next, whole, length-all}
 use Rattle.block.proofs.Sizes.{length-enc_head, length-enc_thread, length-enc_slot, length-enc_entry, length-enc_waiter, length-enc_id}
-use borrow.Author.Rules.{rules}
 use Rattle.block.proofs.encode.Goals as goal
 
 -- The head, the five rows and the spare bytes, one after the other.

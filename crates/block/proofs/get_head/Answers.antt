@@ -1,4 +1,3 @@
-use borrow.Author.Rules.{rules}
 use Rattle.block.proofs.get_head.Goals as goal
 
 -- Four groups of four words.

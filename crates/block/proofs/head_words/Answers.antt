@@ -1,5 +1,4 @@
 use mir.Val.{bool_byte}
-use borrow.Author.Rules.{rules}
 use Rattle.block.proofs.head_words.Goals as goal
 
 -- Each word of the head from the state.

@@ -6,7 +6,6 @@ use Rattle.codec.specs.Groups.{four_bytes}
 use Rattle.block.specs.Block.{enc_head}
 use Rattle.block.proofs.Row.{start, next, whole}
 use Rattle.block.proofs.Sizes.{length-four}
-use borrow.Author.Rules.{rules}
 use Rattle.block.proofs.put_head.Goals as goal
 
 -- Four groups of four words and spare bytes, one after the other.

@@ -1,9 +1,7 @@
 use mathlib.Core.Path.{sym, ◌∙◌}
 use native.Mathlib.Omega.{arith}
-use borrow.Author.Tests.{not-true, not-false}
 use Rattle.laws.specs.Logic.{and_no, and_yes}
 use Rattle.canonical.specs.Parts.{block-parts}
-use borrow.Author.Rules.{rules}
 use Rattle.canonical.proofs.canonical.Goals as goal
 
 -- Each test of the code is a part of the block's.

@@ -1,12 +1,7 @@
-use Prim.Native.Nat.{◌≤◌, ◌<◌, ◌-◌, ◌+◌}
-use mathlib.Core.Path.{◌≡◌, ◌∙◌}
-use lib.ListN.{length, take, get_or}
-use lib.Seq.{take-length, take-suc, length-take-le}
-use native.Mathlib.Omega.{arith}
-use native.Mathlib.Numerals.{add-one}
-use borrow.Author.Rules.{rules}
+use Prim.Native.Nat.{◌≤◌, ◌-◌}
+use mathlib.Core.Path.{◌≡◌}
+use lib.ListN.{length, take}
 use Rattle.codec.specs.Bytes.{over}
-use Rattle.codec.proofs.Laws.{over_none, over-more}
 use Rattle.codec.proofs.copy.Given as goal
 
 abbrev pub invariant-loop-i : goal.invariant-loop-i

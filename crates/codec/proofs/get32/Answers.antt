@@ -1,7 +1,6 @@
 use native.Mathlib.Omega.{arith}
 use native.Mathlib.Nat.{add_assoc}
 use Rattle.codec.proofs.Laws.{gets-eq}
-use borrow.Author.Rules.{rules}
 use Rattle.codec.proofs.get32.Goals as goal
 
 pub returns : goal.returns

@@ -1,6 +1,5 @@
 use native.Mathlib.Omega.{arith}
 use Rattle.codec.proofs.Laws.{le-add}
-use borrow.Author.Rules.{rules}
 use Rattle.codec.proofs.get64.Goals as goal
 
 pub returns : goal.returns

@@ -1,5 +1,3 @@
-use borrow.Author.Rules.{rules}
-use borrow.Author.Rules.{rules}
 use Rattle.codec.proofs.get_four.Goals as goal
 
 pub returns : goal.returns

@@ -3,7 +3,6 @@ use native.Mathlib.Omega.{arith}
 use lib.ListN.{length-set}
 use Rattle.codec.specs.Bytes.{bytes}
 use Rattle.codec.proofs.Laws.{puts-eq}
-use borrow.Author.Rules.{rules}
 use Rattle.codec.proofs.put32.Goals as goal
 
 pub bounds-b-at-2 : goal.bounds-b-at-2

@@ -2,7 +2,6 @@ use Prim.Native.Nat.{◌/◌}
 use native.Mathlib.Omega.{arith}
 use Rattle.codec.specs.Bytes.{bytes}
 use Rattle.codec.proofs.Laws.{over-over, bytes-add, bytes_mod}
-use borrow.Author.Rules.{rules}
 use Rattle.codec.proofs.put64.Goals as goal
 
 pub returns : goal.returns

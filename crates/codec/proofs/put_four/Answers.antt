@@ -1,13 +1,10 @@
 use mathlib.Core.Path.{◌≡◌, ◌∙◌}
-use Prim.Native.Nat.{◌+◌}
 use lib.ListN.{length}
 use native.Mathlib.Omega.{arith}
 use Rattle.codec.specs.Bytes.{bytes}
 use Rattle.codec.proofs.Laws.{over-next, length-bytes}
 use mathlib.Core.List.{◌++◌, append_assoc}
 use lib.ListN.{length-append}
-use borrow.Author.Rules.{rules}
-use borrow.Author.Rules.{rules}
 use Rattle.codec.proofs.put_four.Goals as goal
 
 pub returns : goal.returns

@@ -1,11 +1,11 @@
 use mathlib.Core.Path.{◌∙◌}
-use Prim.Native.Nat.{◌≤◌, ◌<◌, ◌-◌, ◌*◌, ◌+◌}
+use Prim.Native.Nat.{◌≤◌, ◌<◌, ◌*◌, ◌+◌}
 use mathlib.Core.Path.{◌≡◌}
-use lib.ListN.{length, take}
+use lib.ListN.{length}
 use lib.Seq.{take_all}
 use borrow.Author.Rules.{rules}
 use native.Mathlib.Omega.{arith}
-use Rattle.codec.specs.Bytes.{bytes, over}
+use Rattle.codec.specs.Bytes.{bytes}
 use Rattle.codec.specs.Layout.{enc_all}
 use Rattle.codec.proofs.Laws.{over_none, length-bytes}
 use Rattle.codec.proofs.Rows.{write_more}

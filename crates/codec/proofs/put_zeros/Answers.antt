@@ -1,9 +1,8 @@
-use Prim.Native.Nat.{ℕ, ◌≤◌, ◌<◌, ◌-◌, ◌+◌}
+use Prim.Native.Nat.{ℕ, ◌<◌, ◌+◌}
 use mathlib.Core.Path.{◌≡◌, ◌∙◌}
 use mathlib.Core.List.{[], ◌∷◌, ◌++◌}
 use lib.ListN.{length, replicate, length-replicate, replicate-append-replicate}
 use native.Mathlib.Omega.{arith}
-use Rattle.codec.specs.Bytes.{over}
 use Rattle.codec.proofs.Laws.{over_none, over-more}
 use borrow.Author.Rules.{rules}
 use Rattle.codec.proofs.put_zeros.Goals as goal

@@ -1,12 +1,10 @@
 use mathlib.Core.Path.{sym, ap, ◌∙◌}
 use Prim.Native.Nat.{◌≤◌}
 use lib.ListN.{length}
-use borrow.Author.Tests.{not-true, not-false}
 use Rattle.laws.specs.All.{all_map}
 use Rattle.block.specs.Block.{enc_block, dec_block}
 use Rattle.signal.specs.Marks.{sync_list}
 use Rattle.due.proofs.Caught.{none-due, state-is, back}
-use borrow.Author.Rules.{rules}
 use Rattle.types.specs.Thread.{wait_list}
 use Rattle.due.proofs.catch_up.Goals as goal
 

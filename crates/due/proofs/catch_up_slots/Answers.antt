@@ -1,12 +1,10 @@
 use mathlib.Core.Path.{◌≡◌, sym, ap, subst, ◌∙◌}
-use mathlib.Core.Logic.{⊎_elim}
-use Prim.Native.Nat.{◌+◌, ◌-◌, ◌≤◌, ◌<◌}
+use Prim.Native.Nat.{◌+◌, ◌<◌}
 use native.Mathlib.Omega.{arith}
-use lib.ListN.{length}
 use Rattle.due.proofs.Slots.{caught_slot, caught-same}
 use Rattle.rows.specs.Holds.{holds}
 use Rattle.rows.specs.Slots.{slot-before, slots-none, slots_next, slots-more}
-use Rattle.due.proofs.Caught.{CaughtTo, caught-all}
+use Rattle.due.proofs.Caught.{caught-all}
 use Rattle.types.specs.declared.object.Slot.{Slot}
 use borrow.Author.Rules.{rules}
 use Rattle.due.proofs.catch_up_slots.Goals as goal

@@ -1,6 +1,5 @@
 use mathlib.Core.Path.{ap, ◌∙◌}
 use Rattle.pass.specs.Timers.{lost_slot}
-use borrow.Author.Rules.{rules}
 use Rattle.due.proofs.caught_slot.Goals as goal
 
 pub returns : goal.returns

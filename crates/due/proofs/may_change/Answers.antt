@@ -1,6 +1,5 @@
 use mathlib.Core.Path.{sym, ◌∙◌}
 use Rattle.laws.specs.Logic.{or_yes, or_no}
-use borrow.Author.Rules.{rules}
 use Rattle.due.proofs.may_change.Goals as goal
 
 pub returns-then-s : goal.returns-then-s

@@ -1,9 +1,6 @@
-use mathlib.Core.Path.{◌≡◌, refl, sym, ap, ◌∙◌}
-use Prim.Native.Nat.{◌-◌, ◌≤◌}
+use mathlib.Core.Path.{refl, sym, ap, ◌∙◌}
 use native.Mathlib.Omega.{arith}
-use lib.ListN.{drop}
 use Rattle.types.specs.declared.object.Slot.{Slot}
-use Rattle.block.specs.Block.{dec_block}
 use Rattle.pass.specs.Timers.{over_of, any_over}
 use Rattle.due.proofs.Caught.{over_in}
 use Rattle.due.proofs.Looked.{look_hit, look_miss, look_end}

@@ -1,13 +1,8 @@
-use mathlib.Core.Path.{◌≡◌, refl, sym, ap, ◌∙◌}
+use mathlib.Core.Path.{◌≡◌}
 use Prim.Native.Nat.{◌-◌, ◌≤◌}
-use native.Mathlib.Omega.{arith}
 use lib.ListN.{drop}
-use Rattle.types.specs.declared.object.Slot.{Slot}
 use Rattle.block.specs.Block.{dec_block}
-use Rattle.pass.specs.Timers.{over_of, any_over}
-use Rattle.due.proofs.Caught.{over_in}
-use Rattle.due.proofs.Looked.{look_hit, look_miss, look_end}
-use borrow.Author.Rules.{rules}
+use Rattle.pass.specs.Timers.{any_over}
 use Rattle.due.proofs.over.Given as goal
 
 abbrev pub invariant-loop-i : goal.invariant-loop-i

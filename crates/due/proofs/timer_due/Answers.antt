@@ -1,9 +1,6 @@
-use mathlib.Core.Path.{◌≡◌, refl, sym, ap, ◌∙◌}
-use Prim.Native.Nat.{◌-◌, ◌≤◌}
+use mathlib.Core.Path.{refl, sym, ap, ◌∙◌}
 use native.Mathlib.Omega.{arith}
-use lib.ListN.{drop}
 use Rattle.types.specs.declared.object.Slot.{Slot}
-use Rattle.block.specs.Block.{dec_block}
 use Rattle.kernel.specs.NextEvent.{due_of}
 use Rattle.pass.specs.Timers.{due_by, timer_due}
 use Rattle.due.proofs.Looked.{look_hit, look_miss, look_end}

@@ -1,15 +1,13 @@
 use mathlib.Core.Path.{◌≡◌, sym, ap, subst, ◌∙◌}
-use mathlib.Core.Logic.{⊎_elim}
-use Prim.Native.Nat.{ℕ, ◌-◌, ◌≤◌, ◌<◌}
+use Prim.Native.Nat.{ℕ, ◌<◌}
 use native.Mathlib.Omega.{arith}
-use lib.ListN.{length}
 use borrow.Author.Tests.{eqb-false}
 use Rattle.types.specs.declared.object.Slot.{Slot}
 use Rattle.object.specs.Slots.{with_object}
 use Rattle.thread.specs.Threads.{disowned}
 use Rattle.rows.specs.Slots.{slots-none, slot-before, slots_next, slots-more}
 use Rattle.release.specs.Encoded.{encoded-holds}
-use Rattle.ending.proofs.Ended.{disowned-other, DisownedTo, disowned-all}
+use Rattle.ending.proofs.Ended.{disowned-other, disowned-all}
 use borrow.Author.Rules.{rules}
 use Rattle.ending.proofs.disown.Goals as goal
 use Rattle.ending.proofs.disown.Goals.{then-is_mutex, else-is_mutex}
@@ -27,11 +25,11 @@ loop-i-preserved c = let l = c.loop-i in
       search rules,
       elim c.if-is_mutex.branch [
         | then-is_mutex w ↦
-          let n = slots-more s f l.i l.block h g w.disowned_slot.result (w.disowned_slot.ensures ∙ ap (f 0) old) in
-          rw (w.block-is, w.put_slot.ensures) (n.rows.long, n)
+            let n = slots-more s f l.i l.block h g w.disowned_slot.result (w.disowned_slot.ensures ∙ ap (f 0) old) in
+            rw (w.block-is, w.put_slot.ensures) (n.rows.long, n)
         | else-is_mutex w ↦
-          let n = slots_next s f l.i l.block h g (subst (λ (x : Slot). f 0 x ≡ x) old (disowned-other c.args.t c.slot_at-old.result (eqb-false _ _ (sym c.is_mutex.ensures ∙ w.if-is_mutex.false)))) in
-          rw w.block-is (n.rows.long, n)
+            let n = slots_next s f l.i l.block h g (subst (λ (x : Slot). f 0 x ≡ x) old (disowned-other c.args.t c.slot_at-old.result (eqb-false _ _ (sym c.is_mutex.ensures ∙ w.if-is_mutex.false)))) in
+            rw w.block-is (n.rows.long, n)
       ],
     )
 

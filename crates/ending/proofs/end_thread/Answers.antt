@@ -3,7 +3,6 @@ use mathlib.Core.Bool.{false}
 use borrow.Author.Tests.{ne_eqb}
 use Rattle.outcome.specs.Findings.{found_of}
 use Rattle.ending.proofs.Ended.{end-finding}
-use borrow.Author.Rules.{rules}
 use Rattle.ending.proofs.end_thread.Goals as goal
 
 pub returns-then-found-ne0 : goal.returns-then-found-ne0

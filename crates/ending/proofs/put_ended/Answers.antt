@@ -2,7 +2,6 @@ use mathlib.Core.Path.{◌∙◌}
 use Rattle.block.specs.Block.{dec_block}
 use Rattle.release.specs.Encoded.{sound-encoded, encoded-head}
 use Rattle.ending.proofs.Ended.{ended_in}
-use borrow.Author.Rules.{rules}
 use Rattle.ending.proofs.put_ended.Goals as goal
 
 pub release_list-requires : goal.release_list-requires

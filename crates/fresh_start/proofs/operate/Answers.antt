@@ -4,7 +4,6 @@ use lib.ListN.{length, replicate}
 use Rattle.laws.specs.Logic.{and_no, and_yes, true-and}
 use Rattle.codec.proofs.Laws.{over-all}
 use Rattle.lent.specs.Operations.{fresh_start}
-use borrow.Author.Rules.{rules}
 use Rattle.fresh_start.proofs.operate.Goals as goal
 
 pub returns-then-block-ne16384 : goal.returns-then-block-ne16384

@@ -1,5 +1,4 @@
 use Rattle.svc.specs.Arbiter.{create_address_arbiter}
-use borrow.Author.Rules.{rules}
 use Rattle.handle_calls.proofs.create_address_arbiter.Goals as goal
 
 pub returns : goal.returns

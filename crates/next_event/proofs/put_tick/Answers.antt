@@ -6,7 +6,6 @@ use Rattle.codec.proofs.Laws.{length-bytes}
 use Rattle.block.proofs.Row.{start, next, whole}
 use Rattle.block.proofs.Sizes.{length_two}
 use Rattle.lent.specs.Operations.{tick_bytes}
-use borrow.Author.Rules.{rules}
 use Rattle.next_event.proofs.put_tick.Goals as goal
 
 pub returns : goal.returns

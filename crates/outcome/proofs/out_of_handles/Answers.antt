@@ -3,7 +3,6 @@ use lib.Dec.{ltb}
 use Rattle.codec.specs.Layout.{dec_as}
 use Rattle.block.specs.Block.{dec_block}
 use Rattle.lent.specs.Operations.{out_of_handles?}
-use borrow.Author.Rules.{rules}
 use Rattle.outcome.proofs.out_of_handles.Goals as goal
 
 pub returns : goal.returns

@@ -1,6 +1,4 @@
 use mathlib.Core.Path.{sym, ◌∙◌}
-use borrow.Author.Tests.{not-true, not-false}
-use borrow.Author.Rules.{rules}
 use Rattle.pick.proofs.better_priority.Goals as goal
 
 pub returns-then-not-is_runnable : goal.returns-then-not-is_runnable

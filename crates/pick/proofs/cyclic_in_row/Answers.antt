@@ -1,7 +1,7 @@
-use Rattle.std.proofs.Common.{◌≡◌, true, false, ◌%◌, refl, sym, ◌∙◌, ap, ℕ, ◌+◌, ◌-◌, ◌≤◌, length, drop, get_or, arith}
+use Rattle.std.proofs.Common.{◌≡◌, true, false, ◌%◌, sym, ◌∙◌, ◌+◌, ◌-◌, length, arith}
 use Rattle.laws.specs.Logic.{pick_yes, pick_no}
-use Rattle.pass.specs.Pick.{runs_at, cyclic}
-use Rattle.pick.proofs.Turns.{turns, turns-step, turns-end, turns-cyclic}
+use Rattle.pass.specs.Pick.{runs_at}
+use Rattle.pick.proofs.Turns.{turns-step, turns-end, turns-cyclic}
 use Rattle.pick.proofs.cyclic_in_row.Goals as goal
 
 pub loop-k-init : goal.loop-k-init

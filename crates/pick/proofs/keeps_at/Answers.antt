@@ -2,8 +2,6 @@ use mathlib.Core.Path.{sym, ◌∙◌}
 use native.Mathlib.Omega.{arith}
 use Rattle.sound.specs.View.{thread_at-out}
 use Rattle.laws.specs.Logic.{◌and◌}
-use borrow.Author.Tests.{not-true, not-false}
-use borrow.Author.Rules.{rules}
 use Rattle.pick.proofs.keeps_at.Goals as goal
 
 pub returns-then-t-ge32 : goal.returns-then-t-ge32

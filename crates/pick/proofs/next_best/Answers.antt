@@ -1,6 +1,4 @@
 use mathlib.Core.Path.{sym, ◌∙◌}
-use Prim.Native.Nat.{◌-◌}
-use borrow.Author.Rules.{rules}
 use Rattle.pick.proofs.next_best.Goals as goal
 
 pub returns-then-stands : goal.returns-then-stands

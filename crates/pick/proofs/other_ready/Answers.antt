@@ -1,6 +1,5 @@
 use mathlib.Core.Path.{sym, ◌∙◌}
 use Rattle.laws.specs.Logic.{◌and◌}
-use borrow.Author.Rules.{rules}
 use Rattle.pick.proofs.other_ready.Goals as goal
 
 pub returns-then-is_current : goal.returns-then-is_current

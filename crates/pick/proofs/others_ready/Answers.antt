@@ -1,11 +1,9 @@
 use borrow.Author.Rules.{rules}
 use mathlib.Core.Path.{◌≡◌, refl, sym, ◌∙◌}
-use Prim.Native.Nat.{◌-◌, ◌≤◌}
 use native.Mathlib.Omega.{arith}
-use lib.ListN.{length, drop}
+use lib.ListN.{length}
 use Rattle.laws.specs.Logic.{or_yes, or_no}
 use Rattle.pick.proofs.Steps.{others-step, others-end}
-use Rattle.pass.specs.Pick.{others_from}
 use Rattle.pick.proofs.others_ready.Goals as goal
 
 pub loop-i-init : goal.loop-i-init

@@ -1,10 +1,6 @@
-use borrow.Author.Rules.{rules}
-use mathlib.Core.Path.{◌≡◌, refl, sym, ◌∙◌}
+use mathlib.Core.Path.{◌≡◌}
 use Prim.Native.Nat.{◌-◌, ◌≤◌}
-use native.Mathlib.Omega.{arith}
-use lib.ListN.{length, drop}
-use Rattle.laws.specs.Logic.{or_yes, or_no}
-use Rattle.pick.proofs.Steps.{others-step, others-end}
+use lib.ListN.{drop}
 use Rattle.pass.specs.Pick.{others_from}
 use Rattle.pick.proofs.others_ready.Given as goal
 

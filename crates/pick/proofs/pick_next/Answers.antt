@@ -1,11 +1,9 @@
 use mathlib.Core.Path.{◌≡◌, sym, ◌∙◌}
-use Prim.Native.Nat.{◌-◌}
 use native.Mathlib.Omega.{arith}
 use lib.ListN.{length}
 use borrow.Author.Tests.{lt-leb, le-leb}
 use Rattle.pass.specs.Pick.{start_after, pick_next}
 use Rattle.pick.proofs.Turns.{cyclic-cut}
-use borrow.Author.Rules.{rules}
 use Rattle.pick.proofs.pick_next.Goals as goal
 
 pub returns-then-p-ge64 : goal.returns-then-p-ge64

@@ -1,9 +1,7 @@
 use borrow.Author.Rules.{rules}
-use mathlib.Core.Path.{◌≡◌, refl, sym, ◌∙◌}
-use Prim.Native.Nat.{◌-◌, ◌≤◌}
+use mathlib.Core.Path.{refl, sym, ◌∙◌}
 use native.Mathlib.Omega.{arith}
-use Rattle.types.specs.declared.thread.ThreadOption.TheVariants.{NoThread}
-use Rattle.pass.specs.Pick.{other_from, pick_other}
+use Rattle.pass.specs.Pick.{pick_other}
 use Rattle.pick.specs.Best.{option}
 use Rattle.pick.proofs.Steps.{other_step, other-end, best-next, best-places}
 use Rattle.pick.proofs.pick_other.Goals as goal

@@ -1,11 +1,8 @@
-use borrow.Author.Rules.{rules}
-use mathlib.Core.Path.{◌≡◌, refl, sym, ◌∙◌}
+use mathlib.Core.Path.{◌≡◌}
 use Prim.Native.Nat.{◌-◌, ◌≤◌}
-use native.Mathlib.Omega.{arith}
 use Rattle.types.specs.declared.thread.ThreadOption.TheVariants.{NoThread}
-use Rattle.pass.specs.Pick.{other_from, pick_other}
+use Rattle.pass.specs.Pick.{other_from}
 use Rattle.pick.specs.Best.{option}
-use Rattle.pick.proofs.Steps.{other_step, other-end, best-next, best-places}
 use Rattle.pick.proofs.pick_other.Given as goal
 
 abbrev pub invariant-loop-i : goal.invariant-loop-i

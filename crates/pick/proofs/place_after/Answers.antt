@@ -1,7 +1,6 @@
 use Prim.Native.Nat.{◌+◌}
 use native.Mathlib.Omega.{arith}
 use borrow.Author.Tests.{lt-ltb, le-ltb}
-use borrow.Author.Rules.{rules}
 use Rattle.pick.proofs.place_after.Goals as goal
 
 pub returns-then-t-lt31 : goal.returns-then-t-lt31

@@ -1,7 +1,5 @@
 use mathlib.Core.Path.{sym, ◌∙◌}
 use Rattle.laws.specs.Logic.{◌and◌}
-use borrow.Author.Tests.{not-true, not-false}
-use borrow.Author.Rules.{rules}
 use Rattle.pick.proofs.runs_at.Goals as goal
 
 pub returns-then-not-is_runnable : goal.returns-then-not-is_runnable

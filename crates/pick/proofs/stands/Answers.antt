@@ -1,7 +1,6 @@
 use mathlib.Core.Path.{sym, ◌∙◌}
 use Rattle.laws.specs.Logic.{◌and◌}
-use borrow.Author.Tests.{eq-eqb, ne_eqb, not-true, not-false}
-use borrow.Author.Rules.{rules}
+use borrow.Author.Tests.{eq-eqb, ne_eqb}
 use Rattle.pick.proofs.stands.Goals as goal
 
 pub returns-then-i-chosen : goal.returns-then-i-chosen

@@ -2,7 +2,6 @@ use mathlib.Core.Path.{sym, ◌∙◌}
 use mathlib.Core.List.{List}
 use Prim.Native.Nat.{ℕ}
 use native.Mathlib.Omega.{arith}
-use borrow.Author.Tests.{not-true, not-false}
 use Rattle.laws.specs.Logic.{and_no, and_yes}
 use Rattle.laws.specs.All.{All}
 use Rattle.codec.proofs.Back.{Bytes}
@@ -13,7 +12,6 @@ use Rattle.block.specs.Block.{dec_block}
 use Rattle.block.proofs.Fits.{block-fits}
 use Rattle.tally.specs.Lists.{Listed}
 use Rattle.question.specs.Same.{state-same}
-use borrow.Author.Rules.{rules}
 use Rattle.types.specs.Thread.{wait_list}
 use Rattle.question.proofs.state_ok.Goals as goal
 

@@ -1,6 +1,5 @@
 use mathlib.Core.Path.{ap, sym, ◌∙◌}
 use lib.ListN.{length, length-map}
-use borrow.Author.Tests.{not-true, not-false}
 use Rattle.laws.specs.Logic.{and_no, and_yes}
 use Rattle.codec.specs.Layout.{dec_as}
 use Rattle.codec.proofs.Fit.{length-dec_all}
@@ -10,7 +9,6 @@ use Rattle.block.specs.Slot.{dec_slot}
 use Rattle.block.specs.Block.{dec_block}
 use Rattle.block.specs.Tables.{slots_in}
 use Rattle.question.specs.LinearObjects.{store?}
-use borrow.Author.Rules.{rules}
 use Rattle.question.proofs.store_ok.Goals as goal
 
 pub objects_ok-requires : goal.objects_ok-requires

@@ -1,10 +1,8 @@
 use mathlib.Core.Path.{sym, ◌∙◌}
-use borrow.Author.Tests.{not-true, not-false}
 use Rattle.laws.specs.Logic.{and_no, and_yes, false-true}
 use Rattle.codec.specs.Layout.{dec_as}
 use Rattle.block.specs.Block.{dec_block}
 use Rattle.question.specs.LinearObjects.{tables?}
-use borrow.Author.Rules.{rules}
 use Rattle.question.proofs.tables_ok.Goals as goal
 
 pub returns-then-not-handles_ok : goal.returns-then-not-handles_ok

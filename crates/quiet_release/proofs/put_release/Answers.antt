@@ -5,7 +5,6 @@ use Rattle.codec.specs.Groups.{two_bytes}
 use Rattle.codec.proofs.Laws.{length-bytes}
 use Rattle.block.proofs.Row.{start, next, whole}
 use Rattle.block.proofs.Sizes.{length_two}
-use borrow.Author.Rules.{rules}
 use Rattle.quiet_release.proofs.put_release.Goals as goal
 
 pub returns : goal.returns

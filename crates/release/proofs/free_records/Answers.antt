@@ -2,7 +2,6 @@ use mathlib.Core.Path.{◌≡◌, sym, ap}
 use Rattle.block.specs.Block.{dec_block}
 use Rattle.release.specs.Encoded.{encoded-holds}
 use Rattle.release.proofs.Released.{links_of, no-records, waiters_are, put-records}
-use borrow.Author.Rules.{rules}
 use Rattle.release.proofs.free_records.Goals as goal
 
 pub returns-then-first-eq0 : goal.returns-then-first-eq0

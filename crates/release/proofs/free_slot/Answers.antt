@@ -2,7 +2,6 @@ use mathlib.Core.Path.{◌∙◌}
 use Rattle.block.specs.Block.{dec_block}
 use Rattle.release.specs.Encoded.{encoded-head}
 use Rattle.release.proofs.Released.{freed}
-use borrow.Author.Rules.{rules}
 use Rattle.release.proofs.free_slot.Goals as goal
 
 pub returns : goal.returns

@@ -4,7 +4,6 @@ use Rattle.block.specs.Block.{dec_block}
 use Rattle.thread.specs.Threads.{with_threads}
 use Rattle.rows.specs.Holds.{Holds}
 use Rattle.release.proofs.Released.{released-dead, released-last, released-down, released}
-use borrow.Author.Rules.{rules}
 use Rattle.release.proofs.release.Goals as goal
 
 pub returns-then-is_free : goal.returns-then-is_free

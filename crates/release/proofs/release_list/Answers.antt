@@ -1,14 +1,13 @@
-use mathlib.Core.Path.{◌≡◌, refl, subst}
+use mathlib.Core.Path.{refl, subst}
 use mathlib.Core.List.{List}
-use Prim.Native.Nat.{ℕ, ◌+◌, ◌-◌, ◌≤◌}
+use Prim.Native.Nat.{ℕ, ◌+◌}
 use native.Mathlib.Omega.{arith}
-use lib.ListN.{length, take, drop, get_or}
+use lib.ListN.{take, drop, get_or}
 use Rattle.block.specs.Block.{dec_block}
 use Rattle.sound.specs.View.{ids}
 use Rattle.object.proofs.Laws.{list_at, list-end, list_over}
 use Rattle.release.proofs.Released.{Releasing, release-more, release-end}
 use borrow.Author.Rules.{rules}
-use Rattle.types.specs.Thread.{wait_list}
 use Rattle.release.proofs.release_list.Goals as goal
 
 pub loop-i-init : goal.loop-i-init

@@ -1,5 +1,5 @@
 use mathlib.Core.Path.{refl, ◌∙◌}
-use borrow.Author.Tests.{eq-eqb, ne_eqb, not-true, not-false}
+use borrow.Author.Tests.{eq-eqb, ne_eqb}
 use mathlib.Core.Bool.{not}
 use mathlib.Core.List.{[]}
 use lib.Dec.{eqb}
@@ -9,7 +9,6 @@ use Rattle.lent.specs.Lent.{lent}
 use Rattle.lent.specs.Operations.{words, satisfied_bytes}
 use Rattle.lent.specs.Operations as operation
 use Rattle.lent.proofs.Cases.{inspect-1, inspect-2, inspect-8, inspect-0}
-use borrow.Author.Rules.{rules}
 use Rattle.satisfied_now.proofs.operate.Goals as goal
 
 pub returns-then-block-ne16384 : goal.returns-then-block-ne16384

@@ -5,7 +5,6 @@ use Rattle.block.proofs.Row.{start, next, whole, length-all}
 use Rattle.block.proofs.Sizes.{length_two, length-enc_id}
 use Rattle.codec.specs.Layout.{enc_all}
 use Rattle.block.specs.Table.{enc_id}
-use borrow.Author.Rules.{rules}
 use Rattle.satisfied_now.proofs.put_satisfied.Goals as goal
 
 pub returns : goal.returns

@@ -1,7 +1,7 @@
 use mathlib.Core.Path.{◌≡◌, refl, ap, sym, ◌∙◌}
 use mathlib.Core.List.{[]}
 use native.Mathlib.Omega.{arith}
-use borrow.Author.Tests.{eq-eqb, ne_eqb, not-true, not-false}
+use borrow.Author.Tests.{eq-eqb, ne_eqb}
 use Rattle.laws.specs.Logic.{and_no, and_yes, true-and}
 use Rattle.block.specs.Block.{enc_block, dec_block}
 use Rattle.pass.specs.declared.Passed.{Passed}
@@ -12,7 +12,6 @@ use Rattle.lent.specs.Operations.{pass_written}
 use Rattle.lent.specs.Operations as operation
 use Rattle.lent.proofs.Cases.{change-1, change-2, change-found, change-0}
 use Rattle.schedule.proofs.Passes.{handles-found, over-found, none_found, pass-is, written_is}
-use borrow.Author.Rules.{rules}
 use Rattle.schedule.proofs.operate.Goals as goal
 
 pub returns-then-block-ne16384 : goal.returns-then-block-ne16384

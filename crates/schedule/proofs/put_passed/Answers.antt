@@ -2,7 +2,6 @@ use native.Mathlib.Omega.{arith}
 use Rattle.laws.specs.Logic.{pick}
 use Rattle.codec.specs.Bytes.{bytes}
 use Rattle.codec.proofs.Laws.{length-bytes, over-all}
-use borrow.Author.Rules.{rules}
 use Rattle.schedule.proofs.put_passed.Goals as goal
 
 pub returns : goal.returns

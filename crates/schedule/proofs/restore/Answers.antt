@@ -1,4 +1,3 @@
-use borrow.Author.Rules.{rules}
 use Rattle.schedule.proofs.restore.Goals as goal
 
 pub returns-in-SomeThread : goal.returns-in-SomeThread

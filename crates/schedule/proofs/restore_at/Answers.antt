@@ -5,7 +5,6 @@ use Rattle.codec.proofs.Laws.{over-all}
 use Rattle.lent.proofs.Cases.{row-length}
 use mathlib.Core.Path.{◌≡◌, sym, ◌∙◌}
 use borrow.Author.Tests.{lt-ltb, le-ltb}
-use borrow.Author.Rules.{rules}
 use Rattle.schedule.proofs.restore_at.Goals as goal
 
 pub returns-then-t-ge32 : goal.returns-then-t-ge32

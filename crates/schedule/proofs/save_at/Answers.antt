@@ -1,5 +1,4 @@
 use borrow.Author.Tests.{lt-ltb, le-ltb}
-use borrow.Author.Rules.{rules}
 use Rattle.schedule.proofs.save_at.Goals as goal
 
 pub returns-then-t-ge32 : goal.returns-then-t-ge32

@@ -3,7 +3,6 @@ use lib.ListN.{length-replicate}
 use mathlib.Core.Path.{sym, ◌∙◌}
 use mathlib.Core.Bool.{true≢false}
 use Rattle.schedule.proofs.Passes.{restored}
-use borrow.Author.Rules.{rules}
 use Rattle.schedule.proofs.try_waits.Goals as goal
 
 pub returns-then-try_waits : goal.returns-then-try_waits

@@ -6,7 +6,6 @@ use Rattle.block.specs.Block.{dec_block}
 use Rattle.lent.specs.Operations.{out_of_handles?}
 use Rattle.outcome.specs.Findings.{found_of}
 use Rattle.spawn.proofs.Made.{create-finding}
-use borrow.Author.Rules.{rules}
 use Rattle.spawn.proofs.create_thread.Goals as goal
 
 pub returns-then-found-ne0 : goal.returns-then-found-ne0

@@ -2,7 +2,6 @@ use mathlib.Core.Path.{◌∙◌}
 use Rattle.block.specs.Block.{dec_block}
 use Rattle.thread.proofs.Steps.{tls-le}
 use Rattle.spawn.proofs.Made.{count-is, made}
-use borrow.Author.Rules.{rules}
 use Rattle.spawn.proofs.put_created.Goals as goal
 
 pub put_thread-requires : goal.put_thread-requires

@@ -1,8 +1,6 @@
-use mathlib.Core.Path.{◌≡◌, refl}
-use Prim.Native.Nat.{◌-◌, ◌≤◌}
+use mathlib.Core.Path.{refl}
 use native.Mathlib.Omega.{arith}
-use lib.ListN.{drop}
-use Rattle.svc.specs.Table.{table, known_in, known?}
+use Rattle.svc.specs.Table.{table, known?}
 use Rattle.table.proofs.Rows.{known_hit, known_miss, known-end}
 use borrow.Author.Rules.{rules}
 use Rattle.table.proofs.known.Goals as goal

@@ -1,10 +1,7 @@
-use mathlib.Core.Path.{◌≡◌, refl}
+use mathlib.Core.Path.{◌≡◌}
 use Prim.Native.Nat.{◌-◌, ◌≤◌}
-use native.Mathlib.Omega.{arith}
 use lib.ListN.{drop}
 use Rattle.svc.specs.Table.{table, known_in, known?}
-use Rattle.table.proofs.Rows.{known_hit, known_miss, known-end}
-use borrow.Author.Rules.{rules}
 use Rattle.table.proofs.known.Given as goal
 
 abbrev pub invariant-loop-i : goal.invariant-loop-i

@@ -1,8 +1,6 @@
-use mathlib.Core.Path.{◌≡◌, refl}
-use Prim.Native.Nat.{◌-◌, ◌≤◌}
+use mathlib.Core.Path.{refl}
 use native.Mathlib.Omega.{arith}
-use lib.ListN.{drop}
-use Rattle.svc.specs.Table.{table, row_in, row_of}
+use Rattle.svc.specs.Table.{table, row_of}
 use Rattle.table.proofs.Rows.{row_hit, row_miss, row-end}
 use borrow.Author.Rules.{rules}
 use Rattle.table.proofs.row_of.Goals as goal

@@ -1,10 +1,7 @@
-use mathlib.Core.Path.{◌≡◌, refl}
+use mathlib.Core.Path.{◌≡◌}
 use Prim.Native.Nat.{◌-◌, ◌≤◌}
-use native.Mathlib.Omega.{arith}
 use lib.ListN.{drop}
 use Rattle.svc.specs.Table.{table, row_in, row_of}
-use Rattle.table.proofs.Rows.{row_hit, row_miss, row-end}
-use borrow.Author.Rules.{rules}
 use Rattle.table.proofs.row_of.Given as goal
 
 abbrev pub invariant-loop-i : goal.invariant-loop-i

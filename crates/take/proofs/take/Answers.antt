@@ -2,7 +2,6 @@ use mathlib.Core.Path.{refl, sym, ◌∙◌}
 use mathlib.Core.Bool.{true≢false}
 use Rattle.block.specs.Block.{dec_block}
 use Rattle.take.proofs.Taken.{over-is, taken}
-use borrow.Author.Rules.{rules}
 use Rattle.take.proofs.take.Goals as goal
 
 pub returns-then-over_after : goal.returns-then-over_after

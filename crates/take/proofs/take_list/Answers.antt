@@ -1,11 +1,10 @@
-use mathlib.Core.Path.{◌≡◌, refl, sym, subst, ◌∙◌}
+use mathlib.Core.Path.{refl, sym, subst, ◌∙◌}
 use mathlib.Core.Bool.{true≢false}
 use mathlib.Core.List.{List}
-use Prim.Native.Nat.{ℕ, ◌+◌, ◌-◌, ◌≤◌}
+use Prim.Native.Nat.{ℕ, ◌+◌}
 use native.Mathlib.Omega.{arith}
-use lib.ListN.{length, take, drop, get_or}
+use lib.ListN.{take, drop, get_or}
 use Rattle.types.specs.declared.thread.Thread.{Thread}
-use Rattle.types.specs.Thread.{wait_list}
 use Rattle.block.specs.Block.{dec_block}
 use Rattle.sound.specs.View.{ids}
 use Rattle.sound.specs.Objects.{Live}

@@ -1,17 +1,10 @@
-use mathlib.Core.Path.{◌≡◌, refl, sym, subst, ◌∙◌}
-use mathlib.Core.Bool.{true≢false}
-use mathlib.Core.List.{List}
-use Prim.Native.Nat.{ℕ, ◌+◌, ◌-◌, ◌≤◌}
-use native.Mathlib.Omega.{arith}
-use lib.ListN.{length, take, drop, get_or}
-use Rattle.types.specs.declared.thread.Thread.{Thread}
+use mathlib.Core.Path.{◌≡◌}
+use Prim.Native.Nat.{◌-◌, ◌≤◌}
+use lib.ListN.{length, take, drop}
 use Rattle.types.specs.Thread.{wait_list}
 use Rattle.block.specs.Block.{dec_block}
 use Rattle.sound.specs.View.{ids}
-use Rattle.sound.specs.Objects.{Live}
-use Rattle.object.proofs.Laws.{list_at, list-end, list_over}
-use Rattle.take.proofs.Taken.{Taking, take_more, take-over, take-end, take-none-over}
-use borrow.Author.Rules.{rules}
+use Rattle.take.proofs.Taken.{Taking}
 use Rattle.take.proofs.take_list.Given as goal
 
 abbrev pub invariant-loop-i : goal.invariant-loop-i

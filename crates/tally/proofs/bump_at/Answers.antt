@@ -1,7 +1,6 @@
 use native.Mathlib.Omega.{arith}
 use borrow.Author.Tests.{lt-ltb, le-ltb}
 use Rattle.laws.specs.Tally.{bump}
-use borrow.Author.Rules.{rules}
 use Rattle.tally.proofs.bump_at.Goals as goal
 
 pub returns-then-x-gt128 : goal.returns-then-x-gt128

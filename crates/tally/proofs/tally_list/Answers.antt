@@ -1,10 +1,9 @@
 use mathlib.Core.Path.{◌≡◌, refl, sym, ◌∙◌}
-use Prim.Native.Nat.{◌-◌, ◌≤◌, ◌<◌}
+use Prim.Native.Nat.{◌≤◌, ◌<◌}
 use native.Mathlib.Omega.{arith}
-use lib.ListN.{length, drop}
-use Rattle.laws.specs.Tally.{tally, tally-more, tally-none}
+use lib.ListN.{length}
+use Rattle.laws.specs.Tally.{tally-more, tally-none}
 use Rattle.units.specs.declared.ObjectId.{ObjectId}
-use Rattle.sound.specs.View.{ids}
 use borrow.Author.Rules.{rules}
 use Rattle.types.specs.Thread.{wait_list}
 use Rattle.tally.proofs.tally_list.Goals as goal

@@ -1,10 +1,10 @@
 use mathlib.Core.Path.{◌≡◌, refl, sym, ◌∙◌}
-use Prim.Native.Nat.{◌-◌, ◌≤◌, ◌<◌}
+use Prim.Native.Nat.{◌≤◌, ◌<◌}
 use native.Mathlib.Omega.{arith}
-use lib.ListN.{length, drop}
-use Rattle.laws.specs.Tally.{tally, tally-more, tally-none}
+use lib.ListN.{length}
+use Rattle.laws.specs.Tally.{tally-more, tally-none}
 use Rattle.units.specs.declared.ObjectId.{ObjectId}
-use Rattle.tally.specs.Lists.{name_of, names}
+use Rattle.tally.specs.Lists.{name_of}
 use borrow.Author.Rules.{rules}
 use Rattle.types.specs.Thread.{wait_list}
 use Rattle.tally.proofs.tally_names.Goals as goal

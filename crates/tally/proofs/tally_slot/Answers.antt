@@ -1,6 +1,5 @@
 use mathlib.Core.Path.{sym, ◌∙◌}
 use Rattle.laws.specs.Tally.{tally}
-use borrow.Author.Rules.{rules}
 use Rattle.tally.proofs.tally_slot.Goals as goal
 
 pub returns-then-is_dead : goal.returns-then-is_dead

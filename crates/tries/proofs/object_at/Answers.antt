@@ -1,6 +1,5 @@
 use native.Mathlib.Omega.{arith}
 use Rattle.object.proofs.Laws.{kept-far, kept_in_lem}
-use borrow.Author.Rules.{rules}
 use Rattle.tries.proofs.object_at.Goals as goal
 
 pub returns-then-i-ge-WAIT_COUNT : goal.returns-then-i-ge-WAIT_COUNT

@@ -1,6 +1,5 @@
 use mathlib.Core.Path.{refl}
 use Rattle.tries.proofs.Turns.{none_over}
-use borrow.Author.Rules.{rules}
 use Rattle.tries.proofs.take_for.Goals as goal
 
 pub returns-in-Stays : goal.returns-in-Stays

@@ -2,7 +2,6 @@ use mathlib.Core.Path.{ap, ◌∙◌}
 use Rattle.block.specs.Block.{dec_block}
 use Rattle.thread.specs.Threads.{with_threads}
 use Rattle.tries.proofs.Turns.{one-taken, one-is}
-use borrow.Author.Rules.{rules}
 use Rattle.tries.proofs.take_given.Goals as goal
 
 pub returns-then-t : goal.returns-then-t

@@ -1,5 +1,3 @@
-use Prim.Native.Nat.{◌-◌}
-use borrow.Author.Rules.{rules}
 use Rattle.tries.proofs.tried.Goals as goal
 
 pub returns-in-Stays : goal.returns-in-Stays

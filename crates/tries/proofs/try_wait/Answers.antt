@@ -1,11 +1,9 @@
 use mathlib.Core.Path.{sym, ap, ◌∙◌}
 use mathlib.Core.Bool.{true≢false}
-use borrow.Author.Tests.{not-true, not-false}
 use Rattle.block.specs.Block.{dec_block}
 use Rattle.release.specs.Encoded.{sound-encoded}
 use Rattle.tries.specs.Tries.{is_over, took}
 use Rattle.tries.proofs.Turns.{fate-is, stays, lives, over-is, turned}
-use borrow.Author.Rules.{rules}
 use Rattle.tries.proofs.try_wait.Goals as goal
 
 pub returns-then-not-is_over : goal.returns-then-not-is_over

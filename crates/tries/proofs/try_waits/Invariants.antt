@@ -1,12 +1,8 @@
-use mathlib.Core.Path.{◌≡◌, refl, sym, ap, ◌∙◌}
-use mathlib.Core.Bool.{true≢false}
+use mathlib.Core.Path.{◌≡◌}
 use Prim.Native.Nat.{◌-◌, ◌≤◌}
-use native.Mathlib.Omega.{arith}
 use lib.ListN.{length}
-use Rattle.types.specs.declared.kernel.Kernel.{Kernel}
 use Rattle.block.specs.Block.{dec_block}
-use Rattle.tries.proofs.Turns.{none_over, Trying, try_more, try_over, try_end, fires-over, tried-over, tried-is}
-use borrow.Author.Rules.{rules}
+use Rattle.tries.proofs.Turns.{Trying}
 use Rattle.tries.proofs.try_waits.Given as goal
 
 abbrev pub invariant-loop-i : goal.invariant-loop-i

@@ -1,6 +1,4 @@
 use mathlib.Core.Path.{◌∙◌}
-use Prim.Native.Nat.{◌-◌}
-use borrow.Author.Rules.{rules}
 use Rattle.tries.proofs.woken.Goals as goal
 
 pub returns : goal.returns

@@ -1,13 +1,12 @@
 use mathlib.Core.Path.{sym, ap, ◌∙◌}
-use borrow.Author.Tests.{eq-eqb, ne_eqb, not-true, not-false}
-use Rattle.laws.specs.Logic.{◌and◌, ◌or◌, and_no, and_yes, or_yes, or_no}
+use borrow.Author.Tests.{eq-eqb, ne_eqb}
+use Rattle.laws.specs.Logic.{and_no, and_yes, or_yes, or_no}
 use Rattle.types.specs.Thread.{is_dead}
 use Rattle.types.specs.declared.thread.Thread.{Thread}
 use Rattle.types.specs.declared.object.Slot.{Slot}
 use lib.Dec.{leb}
 use Rattle.block.specs.Block.{dec_block}
 use Rattle.sound.specs.View.{slot_at}
-use borrow.Author.Rules.{rules}
 use Rattle.vacant.proofs.is_ended.Goals as goal
 
 pub returns-then-not-is_dead : goal.returns-then-not-is_dead

@@ -6,7 +6,6 @@ use Rattle.thread.specs.Threads.{least, tls_slot}
 use Rattle.thread.specs.Marks.{least-le, free-is}
 use Rattle.thread.proofs.Steps.{tls-le}
 use Rattle.rows.specs.Sizes.{size-threads}
-use borrow.Author.Rules.{rules}
 use Rattle.vacant.proofs.tls_slot.Goals as goal
 
 pub free_slot-requires : goal.free_slot-requires

@@ -3,7 +3,6 @@ use mathlib.Core.Bool.{not}
 use Rattle.types.specs.declared.object.Slot.{Slot}
 use Rattle.block.specs.Block.{dec_block}
 use Rattle.pass.specs.Signal.{is_signaled}
-use borrow.Author.Rules.{rules}
 use Rattle.wait.proofs.as_wanted.Goals as goal
 
 pub returns-then-want : goal.returns-then-want

@@ -1,14 +1,9 @@
-use mathlib.Core.Path.{◌≡◌, refl, sym, ◌∙◌}
-use Prim.Native.Nat.{◌-◌, ◌≤◌}
+use mathlib.Core.Path.{refl, sym, ◌∙◌}
 use native.Mathlib.Omega.{arith}
-use lib.ListN.{take, drop}
 use Rattle.laws.specs.Logic.{pick_yes, pick_no}
-use Rattle.block.specs.Block.{dec_block}
-use Rattle.sound.specs.View.{ids}
 use Rattle.object.proofs.Laws.{list_at, list-end, list_over}
 use Rattle.wait.specs.Looks.{first_where}
 use borrow.Author.Rules.{rules}
-use Rattle.types.specs.Thread.{wait_list}
 use Rattle.wait.proofs.first_in.Goals as goal
 
 pub loop-i-init : goal.loop-i-init

@@ -5,7 +5,6 @@ use Rattle.types.specs.Thread.{is_dead}
 use Rattle.rows.specs.Sizes.{size-threads}
 use Rattle.sound.specs.View.{thread_at-out}
 use Rattle.block.specs.Block.{dec_block}
-use borrow.Author.Rules.{rules}
 use Rattle.wait.proofs.is_gone.Goals as goal
 
 pub returns-then-u-ge32 : goal.returns-then-u-ge32

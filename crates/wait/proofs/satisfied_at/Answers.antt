@@ -2,7 +2,6 @@ use lib.ListN.{take}
 use Rattle.block.specs.Block.{dec_block}
 use Rattle.sound.specs.View.{ids}
 use Rattle.wait.specs.Looks.{index_is}
-use borrow.Author.Rules.{rules}
 use Rattle.wait.proofs.satisfied_at.Goals as goal
 
 pub returns : goal.returns

@@ -1,6 +1,5 @@
 use mathlib.Core.Path.{◌∙◌}
 use Rattle.acquire.specs.Looks.{signaled-is}
-use borrow.Author.Rules.{rules}
 use Rattle.wait.proofs.signaled.Goals as goal
 
 pub returns : goal.returns

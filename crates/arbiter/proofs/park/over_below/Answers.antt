@@ -1,4 +1,3 @@
-use borrow.Author.Tests.{not-true, not-false}
 use Rattle.laws.specs.Logic.{◌and◌}
 use Rattle.arbiter.proofs.park.over_below.Goals as goal
 

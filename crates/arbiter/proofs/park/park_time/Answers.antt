@@ -1,7 +1,5 @@
 use mathlib.Core.Path.{sym, ◌∙◌}
-use borrow.Author.Tests.{not-true, not-false}
 use Rattle.laws.specs.Logic.{◌and◌}
-use borrow.Author.Rules.{rules}
 use Rattle.arbiter.proofs.park.park_time.Goals as goal
 
 pub returns-then-not-timed : goal.returns-then-not-timed

@@ -1,4 +1,3 @@
-use borrow.Author.Rules.{rules}
 use Rattle.arbiter.proofs.park.parked.Goals as goal
 
 pub returns : goal.returns

@@ -1,8 +1,6 @@
 use mathlib.Core.Path.{sym, ◌∙◌}
 use native.Mathlib.Omega.{arith}
-use borrow.Author.Rules.{rules}
 use Rattle.arbiter.proofs.Wakes.{walked_nil, walked_out, walked_on}
-use Prim.Native.Nat.{ℕ, ◌<◌}
 use Rattle.arbiter.proofs.wake.+unlink_woken.Goals as goal
 
 pub returns-then-at-eq0 : goal.returns-then-at-eq0

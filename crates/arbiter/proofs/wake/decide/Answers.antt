@@ -1,9 +1,7 @@
 use mathlib.Core.Path.{sym, ◌∙◌}
 use native.Mathlib.Omega.{arith}
 use lib.ListN.{length-set}
-use borrow.Author.Tests.{not-true, not-false}
 use Rattle.arbiter.proofs.Wakes.{other, left_behind, enough, wakes}
-use borrow.Author.Rules.{rules}
 use Rattle.arbiter.proofs.wake.decide.Goals as goal
 
 pub returns-then-cell-a : goal.returns-then-cell-a

@@ -1,7 +1,6 @@
 use Prim.Native.Nat.{◌≤◌}
 use native.Mathlib.Omega.{arith}
 use lib.ListN.{length, get_or-eq_default}
-use borrow.Author.Rules.{rules}
 use Rattle.arbiter.proofs.wake.is_marked.Goals as goal
 
 pub returns-then-t-ge32 : goal.returns-then-t-ge32

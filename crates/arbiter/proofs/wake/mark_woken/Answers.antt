@@ -1,7 +1,6 @@
 use mathlib.Core.Path.{sym}
 use native.Mathlib.Omega.{arith}
 use lib.Seq.{set_out}
-use borrow.Author.Rules.{rules}
 use Rattle.arbiter.proofs.wake.mark_woken.Goals as goal
 
 pub returns-then-t-ge32 : goal.returns-then-t-ge32

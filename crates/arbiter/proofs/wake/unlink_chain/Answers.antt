@@ -1,5 +1,4 @@
 use Rattle.object.specs.Cells.{joined-columns}
-use borrow.Author.Rules.{rules}
 use Rattle.arbiter.proofs.wake.unlink_chain.Goals as goal
 
 pub returns : goal.returns

@@ -1,4 +1,3 @@
-use borrow.Author.Rules.{rules}
 use Rattle.arbiter.proofs.wake.woken_up.Goals as goal
 
 pub returns : goal.returns

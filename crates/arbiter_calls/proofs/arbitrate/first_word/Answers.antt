@@ -1,7 +1,6 @@
 use mathlib.Core.Path.{sym}
 use native.Mathlib.Omega.{arith}
 use lib.Seq.{get_or-take}
-use borrow.Author.Rules.{rules}
 use Rattle.arbiter_calls.proofs.arbitrate.first_word.Goals as goal
 
 pub returns : goal.returns

@@ -4,7 +4,6 @@ use Rattle.arbiter_calls.proofs.Handle.{handle_finding, not_known, known}
 use mathlib.Core.Path.{refl}
 use Rattle.rows.specs.Holds.{holds}
 use Rattle.arbiter_calls.specs.Kinds.{on_handle, goes_on}
-use borrow.Author.Rules.{rules}
 use Rattle.arbiter_calls.proofs.arbitrate.go_on.Goals as goal
 
 pub returns-then-x-ne0 : goal.returns-then-x-ne0

@@ -1,6 +1,5 @@
 use mathlib.Core.Path.{sym, ◌∙◌}
 use Rattle.arbiter_calls.proofs.ByKind.{answers-over, answers-same}
-use borrow.Author.Rules.{rules}
 use Rattle.arbiter_calls.proofs.arbitrate.no_kind.Goals as goal
 
 pub returns-then-out_of_handles : goal.returns-then-out_of_handles

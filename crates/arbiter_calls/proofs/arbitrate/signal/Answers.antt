@@ -3,7 +3,6 @@ use Rattle.objects.proofs.Calls.{refused-call}
 use Rattle.arbiter_calls.proofs.Handle.{handle_finding, not_known, known}
 use Rattle.arbiter_calls.specs.Kinds.{on_handle, signals}
 use Rattle.arbiter_calls.proofs.ByKind.{signal-finding}
-use borrow.Author.Rules.{rules}
 use Rattle.arbiter_calls.proofs.arbitrate.signal.Goals as goal
 
 pub returns-then-x-ne0 : goal.returns-then-x-ne0

@@ -1,7 +1,6 @@
 use mathlib.Core.Path.{sym, ◌∙◌}
 use Rattle.laws.specs.Logic.{◌or◌}
 use Rattle.arbiter_calls.specs.Found.{found_parking}
-use borrow.Author.Rules.{rules}
 use Rattle.arbiter_calls.proofs.park.found_parking.Goals as goal
 
 pub returns-then-no_room : goal.returns-then-no_room

@@ -2,7 +2,6 @@ use mathlib.Core.Path.{◌∙◌}
 use borrow.Author.Tests.{eq-eqb, ne_eqb}
 use Rattle.laws.specs.Logic.{and-end, and-false}
 use Rattle.arbiter_calls.proofs.Found.{free-is}
-use borrow.Author.Rules.{rules}
 use Rattle.arbiter_calls.proofs.park.no_record.Goals as goal
 
 pub returns-then-get32-ne0 : goal.returns-then-get32-ne0

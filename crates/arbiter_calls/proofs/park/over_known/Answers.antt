@@ -1,12 +1,10 @@
 use mathlib.Core.Path.{sym, subst}
 use mathlib.Core.Bool.{Bool}
-use borrow.Author.Tests.{not-true, not-false}
 use Rattle.laws.specs.Logic.{◌and◌}
 use Rattle.block.specs.Block.{dec_block}
 use Rattle.objects.specs.Open.{Names}
 use Rattle.objects.proofs.Names.{names-is}
 use Rattle.arbiter_calls.proofs.Found.{names-known}
-use borrow.Author.Rules.{rules}
 use Rattle.arbiter_calls.proofs.park.over_known.Goals as goal
 
 pub returns-then-not-over : goal.returns-then-not-over

@@ -3,7 +3,6 @@ use Rattle.types.specs.declared.thread.ThreadOption.{ThreadOption}
 use Rattle.block.specs.Block.{dec_block}
 use Rattle.rows.specs.Holds.{Holds, holds}
 use Rattle.svc.specs.Arbiter.{park_as}
-use borrow.Author.Rules.{rules}
 use Rattle.arbiter_calls.proofs.park.park_as.Goals as goal
 
 pub park_at-requires : goal.park_at-requires

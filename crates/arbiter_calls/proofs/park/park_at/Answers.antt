@@ -1,7 +1,6 @@
 use mathlib.Core.Path.{◌∙◌}
 use Rattle.rows.specs.Current.{current-place}
 use Rattle.rows.specs.Holds.{put-thread}
-use borrow.Author.Rules.{rules}
 use Rattle.arbiter_calls.proofs.park.park_at.Goals as goal
 
 pub thread_at-t-requires : goal.thread_at-t-requires

@@ -1,6 +1,5 @@
 use mathlib.Core.Path.{ap}
 use Rattle.arbiter_calls.specs.declared.record.Room.{Room}
-use borrow.Author.Rules.{rules}
 use Rattle.arbiter_calls.proofs.park.stores_as.Goals as goal
 
 pub returns-in-SomeThread : goal.returns-in-SomeThread

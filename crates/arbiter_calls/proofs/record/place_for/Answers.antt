@@ -1,9 +1,7 @@
 use mathlib.Core.Path.{sym, ◌∙◌}
-use borrow.Author.Tests.{not-true, not-false}
 use Rattle.laws.specs.Logic.{pick_no}
 use Rattle.block.specs.Block.{dec_block}
 use Rattle.arbiter_calls.proofs.Records.{waiters_are, place_other, place-has, place-new}
-use borrow.Author.Rules.{rules}
 use Rattle.arbiter_calls.proofs.record.place_for.Goals as goal
 
 pub returns-then-not-is_arbiter : goal.returns-then-not-is_arbiter

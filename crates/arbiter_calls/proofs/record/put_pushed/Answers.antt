@@ -2,7 +2,6 @@ use borrow.Author.Tests.{not-true, not-false}
 use Rattle.block.specs.Block.{dec_block}
 use Rattle.rows.specs.Holds.{holds}
 use Rattle.arbiter_calls.proofs.Records.{held_as, place-last, push_kept, push_stored}
-use borrow.Author.Rules.{rules}
 use Rattle.arbiter_calls.proofs.record.put_pushed.Goals as goal
 
 pub returns-then-not-r : goal.returns-then-not-r

@@ -3,7 +3,6 @@ use Rattle.block.specs.Block.{dec_block}
 use Rattle.rows.specs.Head.{sound-head}
 use Rattle.rows.specs.Holds.{holds}
 use Rattle.arbiter_calls.proofs.Records.{waiters_are, stored_in}
-use borrow.Author.Rules.{rules}
 use Rattle.arbiter_calls.proofs.record.put_record.Goals as goal
 
 pub put_slot-requires : goal.put_slot-requires

@@ -1,14 +1,13 @@
-use mathlib.Core.Path.{◌≡◌, refl}
-use Prim.Native.Nat.{◌-◌, ◌≤◌, ◌<◌}
+use mathlib.Core.Path.{refl}
+use Prim.Native.Nat.{◌≤◌, ◌<◌}
 use native.Mathlib.Omega.{arith}
-use lib.ListN.{length, take}
+use lib.ListN.{length}
 use Rattle.laws.specs.Count.{one?}
 use Rattle.types.specs.declared.thread.Thread.{Thread}
 use Rattle.block.specs.Block.{dec_block}
 use Rattle.tally.specs.Columns.{map_more, map-done}
 use Rattle.svc.specs.Arbiter.{parked_at}
 use Rattle.rows.specs.Sizes.{size-threads}
-use Rattle.arbiter.specs.Marks.{parked_marks}
 use borrow.Author.Rules.{rules}
 use Rattle.arbiter_calls.proofs.wake.parked_marks.Goals as goal
 

@@ -1,15 +1,8 @@
-use mathlib.Core.Path.{◌≡◌, refl}
-use Prim.Native.Nat.{◌-◌, ◌≤◌, ◌<◌}
-use native.Mathlib.Omega.{arith}
+use mathlib.Core.Path.{◌≡◌}
+use Prim.Native.Nat.{◌-◌, ◌≤◌}
 use lib.ListN.{length, take}
-use Rattle.laws.specs.Count.{one?}
-use Rattle.types.specs.declared.thread.Thread.{Thread}
 use Rattle.block.specs.Block.{dec_block}
-use Rattle.tally.specs.Columns.{map_more, map-done}
-use Rattle.svc.specs.Arbiter.{parked_at}
-use Rattle.rows.specs.Sizes.{size-threads}
 use Rattle.arbiter.specs.Marks.{parked_marks}
-use borrow.Author.Rules.{rules}
 use Rattle.arbiter_calls.proofs.wake.parked_marks.Given as goal
 
 abbrev pub invariant-loop-i : goal.invariant-loop-i

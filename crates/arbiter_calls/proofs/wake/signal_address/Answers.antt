@@ -3,7 +3,6 @@ use native.Mathlib.Omega.{arith}
 use Rattle.rows.specs.Head.{sound-head}
 use Rattle.arbiter_calls.proofs.Records.{waiters_are}
 use Rattle.arbiter_calls.proofs.Woken.{links, unsignaled, signaled}
-use borrow.Author.Rules.{rules}
 use Rattle.arbiter_calls.proofs.wake.signal_address.Goals as goal
 
 pub returns-then-first-eq0 : goal.returns-then-first-eq0

@@ -1,9 +1,7 @@
 use mathlib.Core.Path.{◌≡◌}
-use mathlib.Core.Logic.{⊎_elim}
-use Prim.Native.Nat.{◌-◌, ◌≤◌, ◌<◌}
+use Prim.Native.Nat.{◌<◌}
 use native.Mathlib.Omega.{arith}
-use lib.ListN.{length}
-use Rattle.arbiter_calls.proofs.Woken.{WokenTo, woken-none, woken-next, woken-more, woken-all}
+use Rattle.arbiter_calls.proofs.Woken.{woken-none, woken-next, woken-more, woken-all}
 use borrow.Author.Rules.{rules}
 use Rattle.arbiter_calls.proofs.wake.wake_threads.Goals as goal
 use Rattle.arbiter_calls.proofs.wake.wake_threads.Goals.{then-p-i-eq2, else-p-i-eq2}

@@ -1,10 +1,7 @@
 use mathlib.Core.Path.{◌≡◌}
-use mathlib.Core.Logic.{⊎_elim}
-use Prim.Native.Nat.{◌-◌, ◌≤◌, ◌<◌}
-use native.Mathlib.Omega.{arith}
+use Prim.Native.Nat.{◌-◌, ◌≤◌}
 use lib.ListN.{length}
-use Rattle.arbiter_calls.proofs.Woken.{WokenTo, woken-none, woken-next, woken-more, woken-all}
-use borrow.Author.Rules.{rules}
+use Rattle.arbiter_calls.proofs.Woken.{WokenTo}
 use Rattle.arbiter_calls.proofs.wake.wake_threads.Given as goal
 
 abbrev pub invariant-loop-i : goal.invariant-loop-i

@@ -1,10 +1,8 @@
 use mathlib.Core.Path.{ap, ◌∙◌}
-use borrow.Author.Tests.{not-true, not-false}
 use Rattle.types.specs.declared.object.Slot.{Slot}
 use Rattle.kernel.specs.NextEvent.{earlier, due_of}
 use Rattle.kernel.specs.Marks.{option}
 use Rattle.due.proofs.Looked.{slot_is}
-use borrow.Author.Rules.{rules}
 use Rattle.asked.proofs.event.due_at.Goals as goal
 
 pub returns-then-not-waited : goal.returns-then-not-waited

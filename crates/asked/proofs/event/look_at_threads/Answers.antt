@@ -1,12 +1,11 @@
-use mathlib.Core.Path.{◌≡◌, refl, sym, ap, subst, ◌∙◌}
-use Prim.Native.Nat.{◌+◌, ◌-◌, ◌≤◌, ◌<◌}
+use mathlib.Core.Path.{refl, sym, ap, subst, ◌∙◌}
+use Prim.Native.Nat.{◌+◌, ◌≤◌, ◌<◌}
 use native.Mathlib.Omega.{arith}
-use lib.ListN.{length, take, drop}
+use lib.ListN.{length, drop}
 use lib.Seq.{take_all}
-use Rattle.laws.specs.All.{All, all-take-more}
+use Rattle.laws.specs.All.{all-take-more}
 use Rattle.laws.specs.Tally.{tally, tally_all, tally_all-more, tally_all-none}
 use Rattle.types.specs.declared.thread.Thread.{Thread}
-use Rattle.types.specs.declared.thread.TickOption.TheVariants.{NoTick}
 use Rattle.types.specs.Thread.{wait_list}
 use Rattle.block.specs.Block.{dec_block}
 use Rattle.sound.specs.View.{no_thread}

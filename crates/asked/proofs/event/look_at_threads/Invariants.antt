@@ -1,21 +1,13 @@
-use mathlib.Core.Path.{◌≡◌, refl, sym, ap, subst, ◌∙◌}
-use Prim.Native.Nat.{◌+◌, ◌-◌, ◌≤◌, ◌<◌}
-use native.Mathlib.Omega.{arith}
+use mathlib.Core.Path.{◌≡◌}
+use Prim.Native.Nat.{◌-◌, ◌≤◌}
 use lib.ListN.{length, take, drop}
-use lib.Seq.{take_all}
-use Rattle.laws.specs.All.{All, all-take-more}
-use Rattle.laws.specs.Tally.{tally, tally_all, tally_all-more, tally_all-none}
-use Rattle.types.specs.declared.thread.Thread.{Thread}
+use Rattle.laws.specs.All.{All}
+use Rattle.laws.specs.Tally.{tally_all}
 use Rattle.types.specs.declared.thread.TickOption.TheVariants.{NoTick}
 use Rattle.types.specs.Thread.{wait_list}
 use Rattle.block.specs.Block.{dec_block}
-use Rattle.sound.specs.View.{no_thread}
-use Rattle.kernel.specs.NextEvent.{wake_after, next_wake}
+use Rattle.kernel.specs.NextEvent.{next_wake}
 use Rattle.kernel.specs.Marks.{list_if, lists_if, option}
-use Rattle.kernel.proofs.Steps.{wake-step, wake-end}
-use Rattle.rows.specs.Sizes.{size-threads}
-use Rattle.due.proofs.Looked.{thread-is}
-use borrow.Author.Rules.{rules}
 use Rattle.asked.proofs.event.look_at_threads.Given as goal
 
 abbrev pub invariant-loop-i : goal.invariant-loop-i

@@ -1,9 +1,8 @@
-use mathlib.Core.Path.{◌≡◌, refl, sym, ◌∙◌}
-use Prim.Native.Nat.{◌+◌, ◌-◌, ◌≤◌}
+use mathlib.Core.Path.{refl, sym, ◌∙◌}
+use Prim.Native.Nat.{◌+◌}
 use native.Mathlib.Omega.{arith}
-use lib.ListN.{drop}
 use Rattle.block.specs.Block.{dec_block}
-use Rattle.kernel.specs.Marks.{due_marked, option}
+use Rattle.kernel.specs.Marks.{option}
 use Rattle.kernel.proofs.Steps.{due-step, due-end}
 use Rattle.rows.specs.Sizes.{size-slots}
 use borrow.Author.Rules.{rules}

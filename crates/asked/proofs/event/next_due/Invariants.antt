@@ -1,12 +1,8 @@
-use mathlib.Core.Path.{◌≡◌, refl, sym, ◌∙◌}
+use mathlib.Core.Path.{◌≡◌}
 use Prim.Native.Nat.{◌+◌, ◌-◌, ◌≤◌}
-use native.Mathlib.Omega.{arith}
 use lib.ListN.{drop}
 use Rattle.block.specs.Block.{dec_block}
 use Rattle.kernel.specs.Marks.{due_marked, option}
-use Rattle.kernel.proofs.Steps.{due-step, due-end}
-use Rattle.rows.specs.Sizes.{size-slots}
-use borrow.Author.Rules.{rules}
 use Rattle.asked.proofs.event.next_due.Given as goal
 
 abbrev pub invariant-loop-i : goal.invariant-loop-i

@@ -10,7 +10,6 @@ use Rattle.kernel.specs.NextEvent.{next_wake}
 use Rattle.kernel.specs.Marks.{list_if, due-is}
 use Rattle.rows.specs.Sizes.{size-threads, size-slots}
 use Rattle.asked.proofs.Idle.{event-is}
-use borrow.Author.Rules.{rules}
 use Rattle.asked.proofs.event.next_event.Goals as goal
 
 pub returns : goal.returns

@@ -1,5 +1,4 @@
 use mathlib.Core.Path.{sym, ◌∙◌}
-use borrow.Author.Rules.{rules}
 use Rattle.asked.proofs.open.open_object.Goals as goal
 
 pub returns-then-is_pseudo : goal.returns-then-is_pseudo

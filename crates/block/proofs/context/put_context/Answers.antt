@@ -9,7 +9,6 @@ use Rattle.block.specs.Context.{enc_context}
 use Rattle.block.proofs.Row.{start, next, whole, length-all}
 use Rattle.block.proofs.Sizes.{length_two}
 use Rattle.block.proofs.Contexts.{length-enc_context}
-use borrow.Author.Rules.{rules}
 use Rattle.block.proofs.context.put_context.Goals as goal
 
 -- Five writes, one after the other.

@@ -2,7 +2,6 @@ use Prim.Native.Nat.{◌*◌}
 use native.Mathlib.Nat.{add-sub_cancel_left}
 use Rattle.codec.proofs.Laws.{part_over}
 use Rattle.block.specs.Context.{enc_context}
-use borrow.Author.Rules.{rules}
 use Rattle.block.proofs.context.put_row.Goals as goal
 
 -- One row of the bank.

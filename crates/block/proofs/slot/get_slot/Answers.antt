@@ -2,7 +2,6 @@ use mathlib.Core.Path.{ap, ◌∙◌}
 use lib.Dec.{eqb}
 use Rattle.codec.specs.Layout.{dec_as}
 use Rattle.block.specs.Slot.{object_of, dec_slot}
-use borrow.Author.Rules.{rules}
 use Rattle.block.proofs.slot.get_slot.Goals as goal
 
 -- The object from its words, and the two fields beside it.

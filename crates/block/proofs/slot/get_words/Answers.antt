@@ -1,6 +1,5 @@
 use Rattle.codec.specs.Layout.{dec_as}
 use Rattle.block.specs.Slot.{words}
-use borrow.Author.Rules.{rules}
 use Rattle.block.proofs.slot.get_words.Goals as goal
 
 -- Each number where it stands.

@@ -1,4 +1,3 @@
-use borrow.Author.Rules.{rules}
 use Rattle.block.proofs.slot.mutex_of.Goals as goal
 
 -- Each field from its number.

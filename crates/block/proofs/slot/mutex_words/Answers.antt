@@ -1,4 +1,3 @@
-use borrow.Author.Rules.{rules}
 use Rattle.block.proofs.slot.mutex_words.Goals as goal
 
 -- Each field as its number.

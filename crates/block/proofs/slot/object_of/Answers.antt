@@ -1,5 +1,4 @@
 use borrow.Author.Tests.{ne_eqb}
-use borrow.Author.Rules.{rules}
 use Rattle.block.proofs.slot.object_of.Goals as goal
 
 -- One case a kind; every other number is a dead slot.

@@ -10,7 +10,6 @@ use Rattle.block.specs.declared.slot.ObjectWords.{ObjectWords}
 use Rattle.block.specs.Slot.{enc_slot, enc_slot_words}
 use Rattle.block.proofs.Row.{start, next, whole}
 use Rattle.block.proofs.Sizes.{length_two, length-four}
-use borrow.Author.Rules.{rules}
 use Rattle.block.proofs.slot.put_slot.Goals as goal
 
 -- The words of the object and the two fields beside it, one after the other.

@@ -1,5 +1,4 @@
 use Rattle.block.specs.Table.{dec_entry}
-use borrow.Author.Rules.{rules}
 use Rattle.block.proofs.table.get_entry.Goals as goal
 
 -- An entry is the two words that are read.

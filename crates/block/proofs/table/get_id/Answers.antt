@@ -1,5 +1,4 @@
 use Rattle.block.specs.Table.{dec_id}
-use borrow.Author.Rules.{rules}
 use Rattle.block.proofs.table.get_id.Goals as goal
 
 -- An object number is the word that is read.

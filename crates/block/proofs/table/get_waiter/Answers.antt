@@ -1,5 +1,4 @@
 use Rattle.block.specs.Table.{dec_waiter}
-use borrow.Author.Rules.{rules}
 use Rattle.block.proofs.table.get_waiter.Goals as goal
 
 -- An arbiter record is the three words that are read.

@@ -2,7 +2,6 @@ use Rattle.block.specs.Table.{enc_entry}
 use Rattle.block.proofs.Row.{start, next, whole}
 use Rattle.block.proofs.Sizes.{length-enc_entry}
 use mathlib.Core.Path.{refl}
-use borrow.Author.Rules.{rules}
 use Rattle.block.proofs.table.put_entry.Goals as goal
 
 -- Two words over the whole part.

@@ -3,7 +3,6 @@ use Rattle.codec.specs.Bytes.{bytes}
 use Rattle.codec.proofs.Laws.{length-bytes}
 use mathlib.Core.Path.{refl}
 use Rattle.block.proofs.Row.{start, next, whole}
-use borrow.Author.Rules.{rules}
 use Rattle.block.proofs.table.put_id.Goals as goal
 
 -- One word over the whole part.

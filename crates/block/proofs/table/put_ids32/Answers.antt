@@ -1,11 +1,10 @@
-use Prim.Native.Nat.{◌≤◌, ◌<◌, ◌-◌, ◌*◌, ◌+◌}
+use Prim.Native.Nat.{◌≤◌, ◌<◌, ◌*◌, ◌+◌}
 use mathlib.Core.Path.{◌≡◌, ◌∙◌}
-use lib.ListN.{length, take}
+use lib.ListN.{length}
 use lib.Seq.{take_all}
 use native.Mathlib.Nat.{add-sub_cancel_left}
 use native.Mathlib.Omega.{arith}
 use borrow.Author.Rules.{rules}
-use Rattle.codec.specs.Bytes.{over}
 use Rattle.codec.specs.Layout.{enc_all}
 use Rattle.codec.proofs.Laws.{over_none}
 use Rattle.codec.proofs.Rows.{part_more}

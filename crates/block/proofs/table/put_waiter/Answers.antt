@@ -6,7 +6,6 @@ use Rattle.codec.proofs.Laws.{length-bytes}
 use Rattle.codec.specs.Groups.{two_bytes}
 use Rattle.codec.specs.declared.Two.{Two}
 use mathlib.Core.Path.{refl}
-use borrow.Author.Rules.{rules}
 use Rattle.block.proofs.table.put_waiter.Goals as goal
 
 -- Three words over the whole part.

@@ -1,6 +1,5 @@
 use mathlib.Core.Path.{◌∙◌}
 use Rattle.block.specs.Thread.{thread_of, dec_thread}
-use borrow.Author.Rules.{rules}
 use Rattle.block.proofs.thread.get_thread.Goals as goal
 
 -- A thread from its numbers and its list.

@@ -1,12 +1,7 @@
-use Prim.Native.Nat.{◌≤◌, ◌<◌, ◌-◌}
-use mathlib.Core.Path.{◌≡◌, ◌∙◌, sym}
+use Prim.Native.Nat.{◌≤◌, ◌-◌}
+use mathlib.Core.Path.{◌≡◌}
 use lib.ListN.{length, take}
-use lib.Seq.{take_all}
-use native.Mathlib.Nat.{add-sub_cancel_left}
-use native.Mathlib.Omega.{arith}
-use borrow.Author.Rules.{rules}
 use Rattle.codec.specs.Layout.{dec_all}
-use Rattle.codec.proofs.Rows.{fill_more}
 use Rattle.block.specs.Thread.{dec_thread}
 use Rattle.block.proofs.thread.get_threads.Given as goal
 

@@ -1,6 +1,5 @@
 use Rattle.codec.specs.Layout.{dec_as}
 use Rattle.block.specs.Thread.{words_list}
-use borrow.Author.Rules.{rules}
 use Rattle.block.proofs.thread.get_words.Goals as goal
 
 -- Each number where it stands.

@@ -8,7 +8,6 @@ use Rattle.block.specs.Table.{enc_ids}
 use Rattle.block.specs.Thread.{spare_bytes, enc_words, enc_thread}
 use Rattle.block.proofs.Row.{start, next, whole}
 use Rattle.block.proofs.Sizes.{length-enc_ids, enc_ids-all, length-enc_words}
-use borrow.Author.Rules.{rules}
 use Rattle.block.proofs.thread.put_thread.Goals as goal
 
 -- The numbers of a thread, its list and spare bytes, one after the other.

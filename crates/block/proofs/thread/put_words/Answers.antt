@@ -6,7 +6,6 @@ use Rattle.codec.proofs.Laws.{length-bytes}
 use Rattle.block.specs.Thread.{enc_words}
 use Rattle.block.proofs.Row.{start, next}
 use Rattle.block.proofs.Sizes.{length-four}
-use borrow.Author.Rules.{rules}
 use Rattle.block.proofs.thread.put_words.Goals as goal
 
 -- Four groups of four words and two long words, one after the other.

@@ -1,5 +1,4 @@
 use lib.Dec.{eqb}
-use borrow.Author.Rules.{rules}
 use Rattle.block.proofs.thread.thread_of.Goals as goal
 
 -- Each field from its number.

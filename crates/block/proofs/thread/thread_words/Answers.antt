@@ -1,5 +1,4 @@
 use mir.Val.{bool_byte}
-use borrow.Author.Rules.{rules}
 use Rattle.block.proofs.thread.thread_words.Goals as goal
 
 -- Each field as its number.

@@ -1,10 +1,9 @@
 use mathlib.Core.Path.{sym, ◌∙◌}
 use native.Mathlib.Omega.{arith}
-use borrow.Author.Tests.{not-true, not-false, le-ltb, lt-ltb}
+use borrow.Author.Tests.{le-ltb, lt-ltb}
 use Rattle.laws.specs.Logic.{and_no, and_yes}
 use Rattle.codec.specs.Bytes.{le}
 use Rattle.canonical.specs.Parts.{option?, head-parts}
-use borrow.Author.Rules.{rules}
 use Rattle.canonical.proofs.head.head_same.Goals as goal
 
 -- Each test of the code is a part of the head's.

@@ -2,7 +2,6 @@ use mathlib.Core.Path.{ap, sym, ◌∙◌}
 use lib.Dec.{eqb}
 use Rattle.types.specs.Thread.{thread_flag, thread_value}
 use Rattle.canonical.specs.Parts.{same-no, same-on, same-last}
-use borrow.Author.Rules.{rules}
 use Rattle.canonical.proofs.head.same_option.Goals as goal
 
 -- The flag, then the value.

@@ -1,6 +1,5 @@
 use mathlib.Core.Path.{◌∙◌}
 use Rattle.canonical.specs.Kinds.{as_free, as_thread, as_event, as_mutex, as_semaphore, as_timer, as_arbiter, as_process, as_limit, as_none}
-use borrow.Author.Rules.{rules}
 use Rattle.canonical.proofs.slot.object_same.Goals as goal
 
 -- One case a kind.

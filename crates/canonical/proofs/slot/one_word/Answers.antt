@@ -1,6 +1,5 @@
 use mathlib.Core.Path.{sym, ◌∙◌}
 use Rattle.canonical.specs.Parts.{same-no, same-on}
-use borrow.Author.Rules.{rules}
 use Rattle.canonical.proofs.slot.one_word.Goals as goal
 
 pub returns-then-w-ne0 : goal.returns-then-w-ne0

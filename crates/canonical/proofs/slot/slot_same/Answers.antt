@@ -1,11 +1,9 @@
 use mathlib.Core.Path.{ap, sym, ◌∙◌}
 use native.Mathlib.Omega.{arith}
 use lib.Dec.{ltb}
-use borrow.Author.Tests.{not-true, not-false}
 use Rattle.laws.specs.Logic.{and_no, and_yes}
 use Rattle.canonical.specs.Parts.{slot-parts}
 use Rattle.canonical.specs.Kinds.{whole}
-use borrow.Author.Rules.{rules}
 use Rattle.canonical.proofs.slot.slot_same.Goals as goal
 
 -- The object's words as those of the object that they say, then the mark.

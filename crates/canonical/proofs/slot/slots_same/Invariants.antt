@@ -1,13 +1,7 @@
 use Prim.Native.Nat.{◌≤◌, ◌-◌, ◌+◌, ◌*◌}
-use mathlib.Core.Path.{◌≡◌, refl, sym, ◌∙◌}
-use native.Mathlib.Nat.{add-sub_cancel_left}
-use native.Mathlib.Omega.{arith}
-use borrow.Author.Rules.{rules}
-use borrow.Author.Tests.{not-true, not-false}
-use Rattle.laws.specs.Logic.{and_no, and_yes}
+use mathlib.Core.Path.{◌≡◌}
 use Rattle.block.specs.Slot.{enc_slot, dec_slot}
-use Rattle.block.proofs.Sizes.{length-enc_slot}
-use Rattle.canonical.specs.Rows.{rows?, rows_end, rows-turn}
+use Rattle.canonical.specs.Rows.{rows?}
 use Rattle.canonical.proofs.slot.slots_same.Given as goal
 
 abbrev pub invariant-loop-i : goal.invariant-loop-i

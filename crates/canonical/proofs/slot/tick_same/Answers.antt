@@ -2,7 +2,6 @@ use mathlib.Core.Path.{ap, sym, ◌∙◌}
 use lib.Dec.{eqb}
 use Rattle.types.specs.Thread.{tick_flag, tick_value}
 use Rattle.canonical.specs.Parts.{same-no, same-on, same-last}
-use borrow.Author.Rules.{rules}
 use Rattle.canonical.proofs.slot.tick_same.Goals as goal
 
 -- The flag, then the value.

@@ -1,7 +1,5 @@
 use mathlib.Core.Path.{sym, ◌∙◌}
-use borrow.Author.Tests.{not-true, not-false}
 use Rattle.laws.specs.Logic.{and_no, and_yes}
-use borrow.Author.Rules.{rules}
 use Rattle.canonical.proofs.slot.timer_same.Goals as goal
 
 pub returns-then-not-reset_same : goal.returns-then-not-reset_same

@@ -1,7 +1,5 @@
 use mathlib.Core.Path.{sym, ◌∙◌}
-use borrow.Author.Tests.{not-true, not-false}
 use Rattle.canonical.specs.Parts.{same-no, same-on, same-last, four-no, four-on}
-use borrow.Author.Rules.{rules}
 use Rattle.canonical.proofs.thread.same_words.Goals as goal
 
 -- Four groups of four words, then two.

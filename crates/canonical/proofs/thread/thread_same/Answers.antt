@@ -1,12 +1,10 @@
 use mathlib.Core.Path.{ap, sym, ◌∙◌}
 use mathlib.Core.List.{[]}
 use native.Mathlib.Omega.{arith}
-use borrow.Author.Tests.{not-true, not-false}
 use Rattle.laws.specs.Logic.{and_no, and_yes}
 use Rattle.codec.specs.Bytes.{same}
 use Rattle.block.specs.Thread.{thread_words, words_list, thread_of, dec_thread}
 use Rattle.canonical.specs.Parts.{thread-parts}
-use borrow.Author.Rules.{rules}
 use Rattle.canonical.proofs.thread.thread_same.Goals as goal
 
 -- The words as those of the thread that they say, whatever its list, then what is spare.

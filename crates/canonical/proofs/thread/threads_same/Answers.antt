@@ -1,13 +1,11 @@
-use Prim.Native.Nat.{◌≤◌, ◌-◌, ◌+◌, ◌*◌}
+use Prim.Native.Nat.{◌-◌, ◌+◌, ◌*◌}
 use mathlib.Core.Path.{◌≡◌, refl, sym, ◌∙◌}
 use native.Mathlib.Nat.{add-sub_cancel_left}
 use native.Mathlib.Omega.{arith}
-use borrow.Author.Rules.{rules}
-use borrow.Author.Tests.{not-true, not-false}
 use Rattle.laws.specs.Logic.{and_no, and_yes}
 use Rattle.block.specs.Thread.{enc_thread, dec_thread}
 use Rattle.block.proofs.Sizes.{length-enc_thread}
-use Rattle.canonical.specs.Rows.{rows?, rows_end, rows-turn}
+use Rattle.canonical.specs.Rows.{rows_end, rows-turn}
 use Rattle.canonical.proofs.thread.threads_same.Goals as goal
 
 -- The answer for all records is that for those not passed yet; a turn compares one.

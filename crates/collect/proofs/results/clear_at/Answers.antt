@@ -1,6 +1,5 @@
 use borrow.Author.Tests.{le-ltb}
 use Rattle.rows.specs.Rows.{thread_put}
-use borrow.Author.Rules.{rules}
 use Rattle.collect.proofs.results.clear_at.Goals as goal
 
 pub returns-then-c-ge32 : goal.returns-then-c-ge32

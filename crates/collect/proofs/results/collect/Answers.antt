@@ -1,5 +1,4 @@
 use Rattle.svc.specs.Collect as def
-use borrow.Author.Rules.{rules}
 use Rattle.collect.proofs.results.collect.Goals as goal
 
 pub returns : goal.returns

@@ -1,5 +1,4 @@
 use Rattle.rows.specs.Holds.{holds, put-thread}
-use borrow.Author.Rules.{rules}
 use Rattle.collect.proofs.results.collect_as.Goals as goal
 
 pub returns-in-NoThread : goal.returns-in-NoThread

@@ -6,7 +6,6 @@ use Rattle.types.specs.declared.thread.Thread.{Thread}
 use Rattle.block.specs.Block.{dec_block}
 use Rattle.block.specs.Thread.{dec_thread}
 use Rattle.block.specs.Tables.{threads_in}
-use borrow.Author.Rules.{rules}
 use Rattle.collect.proofs.results.result_at.Goals as goal
 
 pub returns-then-c-ge32 : goal.returns-then-c-ge32

@@ -1,4 +1,3 @@
-use borrow.Author.Rules.{rules}
 use Rattle.collect.proofs.results.syscall_as.Goals as goal
 
 pub returns-in-NoThread : goal.returns-in-NoThread

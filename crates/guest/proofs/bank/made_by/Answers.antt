@@ -1,7 +1,6 @@
 use borrow.Author.Tests.{eq-eqb, ne_eqb}
 use Rattle.codec.specs.Layout.{dec_as}
 use Rattle.block.specs.Block.{dec_block}
-use borrow.Author.Rules.{rules}
 use Rattle.guest.proofs.bank.made_by.Goals as goal
 
 pub returns-then-number-ne8 : goal.returns-then-number-ne8

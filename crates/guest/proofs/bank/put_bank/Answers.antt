@@ -1,5 +1,4 @@
 use borrow.Author.Tests.{eq-eqb, ne_eqb}
-use borrow.Author.Rules.{rules}
 use Rattle.guest.proofs.bank.put_bank.Goals as goal
 
 pub returns-then-number-ne8 : goal.returns-then-number-ne8

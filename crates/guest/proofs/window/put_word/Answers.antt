@@ -1,4 +1,3 @@
-use borrow.Author.Rules.{rules}
 use Rattle.guest.proofs.window.put_word.Goals as goal
 
 pub put_word_at-requires : goal.put_word_at-requires

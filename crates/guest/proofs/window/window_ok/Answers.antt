@@ -1,6 +1,5 @@
 use borrow.Author.Tests.{eq-eqb, ne_eqb, lt-leb, le-leb}
 use Rattle.laws.specs.Logic.{◌and◌}
-use borrow.Author.Rules.{rules}
 use Rattle.guest.proofs.window.window_ok.Goals as goal
 
 pub returns-then-n-gt65536 : goal.returns-then-n-gt65536

@@ -1,12 +1,11 @@
 use mathlib.Core.Path.{◌≡◌}
-use Prim.Native.Nat.{◌-◌, ◌<◌, ◌≤◌}
+use Prim.Native.Nat.{◌<◌}
 use native.Mathlib.Omega.{arith}
-use lib.ListN.{length, take}
+use lib.ListN.{length}
 use Rattle.codec.specs.Bytes.{num}
 use Rattle.codec.specs.Layout.{dec_all}
 use Rattle.codec.proofs.Rows.{fill_more}
 use borrow.Author.Rules.{rules}
-use Rattle.types.specs.Thread.{wait_list}
 use Rattle.guest.proofs.window.words_at.Goals as goal
 
 pub loop-i-init : goal.loop-i-init

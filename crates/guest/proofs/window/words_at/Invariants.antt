@@ -1,11 +1,8 @@
 use mathlib.Core.Path.{◌≡◌}
-use Prim.Native.Nat.{◌-◌, ◌<◌, ◌≤◌}
-use native.Mathlib.Omega.{arith}
+use Prim.Native.Nat.{◌-◌, ◌≤◌}
 use lib.ListN.{length, take}
 use Rattle.codec.specs.Bytes.{num}
 use Rattle.codec.specs.Layout.{dec_all}
-use Rattle.codec.proofs.Rows.{fill_more}
-use borrow.Author.Rules.{rules}
 use Rattle.types.specs.Thread.{wait_list}
 use Rattle.guest.proofs.window.words_at.Given as goal
 

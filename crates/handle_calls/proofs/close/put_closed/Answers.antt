@@ -5,7 +5,6 @@ use Rattle.rows.specs.Holds.{Holds, holds}
 use Rattle.release.specs.Encoded.{sound-encoded}
 use Rattle.handle_calls.proofs.Removed.{entry-is}
 use Rattle.handle_calls.proofs.Written.{closed_none, closed_some, no_place, at_place}
-use borrow.Author.Rules.{rules}
 use Rattle.handle_calls.proofs.close.put_closed.Goals as goal
 
 pub returns-then-i-ge256 : goal.returns-then-i-ge256

@@ -1,8 +1,7 @@
-use mathlib.Core.Path.{◌≡◌, subst, sym, ◌∙◌}
+use mathlib.Core.Path.{subst, sym, ◌∙◌}
 use mathlib.Core.List.{List}
-use Prim.Native.Nat.{ℕ, ◌+◌, ◌-◌, ◌≤◌}
+use Prim.Native.Nat.{ℕ, ◌+◌}
 use native.Mathlib.Omega.{arith}
-use lib.ListN.{length}
 use Rattle.block.specs.Block.{dec_block}
 use Rattle.handle_calls.proofs.Removed.{entry-is, Removing, remove-none, remove-more, remove-end}
 use borrow.Author.Rules.{rules}

@@ -1,11 +1,8 @@
-use mathlib.Core.Path.{◌≡◌, subst, sym, ◌∙◌}
-use mathlib.Core.List.{List}
-use Prim.Native.Nat.{ℕ, ◌+◌, ◌-◌, ◌≤◌}
-use native.Mathlib.Omega.{arith}
+use mathlib.Core.Path.{◌≡◌}
+use Prim.Native.Nat.{◌-◌, ◌≤◌}
 use lib.ListN.{length}
 use Rattle.block.specs.Block.{dec_block}
-use Rattle.handle_calls.proofs.Removed.{entry-is, Removing, remove-none, remove-more, remove-end}
-use borrow.Author.Rules.{rules}
+use Rattle.handle_calls.proofs.Removed.{Removing}
 use Rattle.handle_calls.proofs.close.remove_entry.Given as goal
 
 abbrev pub invariant-loop-j : goal.invariant-loop-j

@@ -2,7 +2,6 @@ use mathlib.Core.Path.{◌∙◌}
 use Rattle.block.specs.Block.{dec_block}
 use Rattle.release.specs.Encoded.{encoded-head}
 use Rattle.handle_calls.proofs.Removed.{taken_out_lem}
-use borrow.Author.Rules.{rules}
 use Rattle.handle_calls.proofs.close.take_out.Goals as goal
 
 pub returns : goal.returns

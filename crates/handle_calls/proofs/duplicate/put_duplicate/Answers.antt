@@ -5,7 +5,6 @@ use Rattle.rows.specs.Head.{sound-head}
 use Rattle.rows.specs.Holds.{holds}
 use Rattle.handle_calls.proofs.Written.{duplicated}
 use mathlib.Core.Path.{ap, ◌∙◌}
-use borrow.Author.Rules.{rules}
 use Rattle.handle_calls.proofs.duplicate.put_duplicate.Goals as goal
 
 pub overflow_add-c : goal.overflow_add-c

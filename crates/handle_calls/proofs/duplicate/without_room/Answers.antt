@@ -4,7 +4,6 @@ use Rattle.block.specs.Block.{dec_block}
 use Rattle.objects.specs.Open.{Names}
 use Rattle.objects.proofs.Names.{names-is}
 use Rattle.handle_calls.proofs.Crowded.{no-slot, no_handle, used_up, not_known}
-use borrow.Author.Rules.{rules}
 use Rattle.handle_calls.proofs.duplicate.without_room.Goals as goal
 
 pub returns-then-no_room : goal.returns-then-no_room

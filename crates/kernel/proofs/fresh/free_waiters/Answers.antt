@@ -1,10 +1,10 @@
 use mathlib.Core.Path.{◌≡◌, refl, sym, ◌∙◌}
-use mathlib.Core.List.{◌++◌, append-nil}
-use Prim.Native.Nat.{◌+◌, ◌-◌, ◌≤◌}
+use mathlib.Core.List.{append-nil}
+use Prim.Native.Nat.{◌≤◌}
 use native.Mathlib.Omega.{arith}
-use lib.ListN.{length, take}
+use lib.ListN.{length}
 use lib.Seq.{take_all}
-use Rattle.kernel.specs.Fresh.{in_row, free_waiter, free_waiters}
+use Rattle.kernel.specs.Fresh.{free_waiter, free_waiters}
 use Rattle.kernel.proofs.Rows.{row_step, row-end}
 use borrow.Author.Rules.{rules}
 use Rattle.kernel.proofs.fresh.free_waiters.Goals as goal

@@ -1,12 +1,8 @@
-use mathlib.Core.Path.{◌≡◌, refl, sym, ◌∙◌}
-use mathlib.Core.List.{◌++◌, append-nil}
+use mathlib.Core.Path.{◌≡◌}
+use mathlib.Core.List.{◌++◌}
 use Prim.Native.Nat.{◌+◌, ◌-◌, ◌≤◌}
-use native.Mathlib.Omega.{arith}
 use lib.ListN.{length, take}
-use lib.Seq.{take_all}
-use Rattle.kernel.specs.Fresh.{in_row, free_waiter, free_waiters}
-use Rattle.kernel.proofs.Rows.{row_step, row-end}
-use borrow.Author.Rules.{rules}
+use Rattle.kernel.specs.Fresh.{in_row, free_waiter}
 use Rattle.kernel.proofs.fresh.free_waiters.Given as goal
 
 abbrev pub invariant-loop-i : goal.invariant-loop-i

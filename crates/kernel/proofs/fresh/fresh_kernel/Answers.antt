@@ -1,5 +1,4 @@
 use Rattle.kernel.specs.Fresh.{fresh}
-use borrow.Author.Rules.{rules}
 use Rattle.kernel.proofs.fresh.fresh_kernel.Goals as goal
 
 pub returns : goal.returns

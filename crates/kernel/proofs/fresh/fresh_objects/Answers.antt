@@ -1,4 +1,3 @@
-use borrow.Author.Rules.{rules}
 use Rattle.kernel.proofs.fresh.fresh_objects.Goals as goal
 
 pub returns : goal.returns

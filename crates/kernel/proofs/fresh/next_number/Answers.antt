@@ -1,7 +1,6 @@
 use borrow.Author.Tests.{eq-eqb, ne_eqb}
 use native.Mathlib.Omega.{arith}
 use Prim.Native.Nat.{◌-◌}
-use borrow.Author.Rules.{rules}
 use Rattle.kernel.proofs.fresh.next_number.Goals as goal
 
 pub returns-then-n-i : goal.returns-then-n-i

@@ -1,10 +1,8 @@
 use mathlib.Core.Path.{sym, ◌∙◌}
-use borrow.Author.Tests.{not-true, not-false}
 use native.Mathlib.Omega.{arith}
 use lib.ListN.{length-map}
 use Rattle.laws.specs.Tally.{tally}
 use Rattle.units.specs.declared.ObjectId.{ObjectId}
-use borrow.Author.Rules.{rules}
 use Rattle.kernel.proofs.next_event.mark_list.Goals as goal
 
 pub returns-then-not-blocked : goal.returns-then-not-blocked

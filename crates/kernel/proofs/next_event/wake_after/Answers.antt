@@ -1,5 +1,4 @@
 use mathlib.Core.Path.{sym, ◌∙◌}
-use borrow.Author.Rules.{rules}
 use Rattle.kernel.proofs.next_event.wake_after.Goals as goal
 
 pub returns-then-is_blocked : goal.returns-then-is_blocked

@@ -1,8 +1,6 @@
 use mathlib.Core.Path.{sym, ◌∙◌}
-use borrow.Author.Tests.{not-true, not-false}
 use Rattle.laws.specs.Logic.{and_no, and_yes}
 use Rattle.sound.specs.Question.{sound?}
-use borrow.Author.Rules.{rules}
 use Rattle.lent.proofs.questions.block_ok.Goals as goal
 
 pub returns-then-not-canonical : goal.returns-then-not-canonical

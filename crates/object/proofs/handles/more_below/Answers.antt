@@ -1,5 +1,4 @@
 use borrow.Author.Tests.{lt-ltb, le-ltb}
-use borrow.Author.Rules.{rules}
 use Rattle.object.proofs.handles.more_below.Goals as goal
 
 pub returns-then-x-n : goal.returns-then-x-n

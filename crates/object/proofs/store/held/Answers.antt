@@ -1,5 +1,4 @@
 use mathlib.Core.Path.{sym, ◌∙◌}
-use borrow.Author.Rules.{rules}
 use Rattle.types.specs.Tests.{free-number}
 use Rattle.object.proofs.store.held.Goals as goal
 

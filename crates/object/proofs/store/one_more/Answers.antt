@@ -1,5 +1,4 @@
 use borrow.Author.Tests.{lt-ltb, le-ltb}
-use borrow.Author.Rules.{rules}
 use Rattle.object.proofs.store.one_more.Goals as goal
 
 pub returns-then-x-lt4294967295 : goal.returns-then-x-lt4294967295

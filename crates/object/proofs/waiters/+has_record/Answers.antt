@@ -1,11 +1,8 @@
 use mathlib.Core.Path.{sym, ◌∙◌}
 use native.Mathlib.Omega.{arith}
-use mathlib.Core.Logic.{⊎_elim}
 use Rattle.laws.specs.Walk.{walk-nil, walk-out}
 use Rattle.sound.specs.Records.{has?}
 use Rattle.object.proofs.Laws.{has_here, has-thread, has_address}
-use borrow.Author.Rules.{rules}
-use Prim.Native.Nat.{ℕ, ◌<◌}
 use Rattle.object.proofs.waiters.+has_record.Goals as goal
 use Rattle.object.proofs.waiters.+has_record.Goals.{then-cell-t+else-cell-a, else-cell-t}
 

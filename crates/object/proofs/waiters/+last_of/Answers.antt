@@ -3,8 +3,6 @@ use native.Mathlib.Omega.{arith}
 use Rattle.laws.specs.Walk.{walk-nil, walk-out}
 use Rattle.object.specs.Waiters.{last_of}
 use Rattle.object.proofs.Laws.{last-go}
-use borrow.Author.Rules.{rules}
-use Prim.Native.Nat.{ℕ, ◌<◌}
 use Rattle.object.proofs.waiters.+last_of.Goals as goal
 
 pub returns-then-at-eq0 : goal.returns-then-at-eq0

@@ -1,8 +1,6 @@
 use mathlib.Core.Path.{sym, ◌∙◌}
 use native.Mathlib.Omega.{arith}
 use Rattle.object.proofs.Cells.{unlink-nil, unlink-out, unlink-on}
-use borrow.Author.Rules.{rules}
-use Prim.Native.Nat.{ℕ, ◌<◌}
 use Rattle.object.proofs.waiters.+unlink.Goals as goal
 
 pub returns-then-at-eq0 : goal.returns-then-at-eq0

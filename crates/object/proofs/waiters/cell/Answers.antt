@@ -2,7 +2,6 @@ use mathlib.Core.Path.{sym}
 use native.Mathlib.Omega.{arith}
 use Rattle.laws.specs.StoreTest.{at_out}
 use Rattle.object.proofs.Cells.{at_none, at-pos}
-use borrow.Author.Rules.{rules}
 use Rattle.object.proofs.waiters.cell.Goals as goal
 
 pub returns-then-x-eq0 : goal.returns-then-x-eq0

@@ -1,6 +1,5 @@
 use mathlib.Core.Path.{refl, sym, ◌∙◌}
 use Rattle.object.proofs.Laws.{last_none, has-none, last-zero}
-use borrow.Author.Rules.{rules}
 use Rattle.object.proofs.waiters.chain_end.Goals as goal
 
 pub returns-then-head-eq0 : goal.returns-then-head-eq0

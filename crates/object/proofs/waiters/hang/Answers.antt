@@ -1,4 +1,3 @@
-use borrow.Author.Rules.{rules}
 use Rattle.object.proofs.waiters.hang.Goals as goal
 
 pub returns : goal.returns

@@ -1,7 +1,5 @@
-use mathlib.Core.Path.{◌≡◌, refl}
-use Prim.Native.Nat.{◌-◌, ◌≤◌}
+use mathlib.Core.Path.{refl}
 use native.Mathlib.Omega.{arith}
-use lib.ListN.{length, take}
 use Rattle.object.specs.Cells.{joined}
 use Rattle.object.proofs.Cells.{join_more, join-done}
 use borrow.Author.Rules.{rules}

@@ -1,10 +1,7 @@
-use mathlib.Core.Path.{◌≡◌, refl}
+use mathlib.Core.Path.{◌≡◌}
 use Prim.Native.Nat.{◌-◌, ◌≤◌}
-use native.Mathlib.Omega.{arith}
 use lib.ListN.{length, take}
 use Rattle.object.specs.Cells.{joined}
-use Rattle.object.proofs.Cells.{join_more, join-done}
-use borrow.Author.Rules.{rules}
 use Rattle.object.proofs.waiters.join.Given as goal
 
 abbrev pub invariant-loop-i : goal.invariant-loop-i

@@ -1,6 +1,5 @@
 use Rattle.laws.specs.Count.{length-put}
 use Rattle.object.proofs.Cells.{link_keep, link-free}
-use borrow.Author.Rules.{rules}
 use Rattle.object.proofs.waiters.link_cells.Goals as goal
 
 pub returns-then-keep : goal.returns-then-keep

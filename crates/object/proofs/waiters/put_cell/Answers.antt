@@ -1,6 +1,5 @@
 use native.Mathlib.Omega.{arith}
 use Rattle.object.proofs.Cells.{put-none, put-pos, put-far}
-use borrow.Author.Rules.{rules}
 use Rattle.object.proofs.waiters.put_cell.Goals as goal
 
 pub returns-then-x-eq0 : goal.returns-then-x-eq0

@@ -1,6 +1,5 @@
 use native.Mathlib.Omega.{arith}
 use Rattle.object.proofs.Laws.{waiter_put-none, waiter_put-pos, waiter_put-far}
-use borrow.Author.Rules.{rules}
 use Rattle.object.proofs.waiters.put_waiter.Goals as goal
 
 pub returns-then-x-eq0 : goal.returns-then-x-eq0

@@ -1,6 +1,5 @@
 use native.Mathlib.Omega.{arith}
 use Rattle.object.proofs.Laws.{waiter_at-none, waiter_at-pos, waiter_at-far}
-use borrow.Author.Rules.{rules}
 use Rattle.object.proofs.waiters.waiter_at.Goals as goal
 
 pub returns-then-x-eq0 : goal.returns-then-x-eq0

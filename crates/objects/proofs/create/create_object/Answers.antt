@@ -8,7 +8,6 @@ use Rattle.svc.specs.Call.{create_object}
 use Rattle.outcome.specs.Outcome.{given, outcome-0, outcome-found, left-0, left-found}
 use Rattle.outcome.specs.Findings.{found_of, none_found}
 use Rattle.objects.proofs.Found.{created-finding}
-use borrow.Author.Rules.{rules}
 use Rattle.objects.proofs.create.create_object.Goals as goal
 
 pub returns-then-found-ne0 : goal.returns-then-found-ne0

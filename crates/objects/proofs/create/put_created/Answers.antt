@@ -4,7 +4,6 @@ use Rattle.block.specs.declared.Head.{Head}
 use Rattle.rows.specs.Head.{sound-head}
 use Rattle.rows.specs.Holds.{holds}
 use Rattle.objects.proofs.Made.{created}
-use borrow.Author.Rules.{rules}
 use Rattle.objects.proofs.create.put_created.Goals as goal
 
 pub overflow_add-c : goal.overflow_add-c

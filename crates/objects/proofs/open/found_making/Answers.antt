@@ -1,6 +1,5 @@
 use Rattle.codec.specs.Layout.{dec_as}
 use Rattle.block.specs.Block.{dec_block}
-use borrow.Author.Rules.{rules}
 use Rattle.objects.proofs.open.found_making.Goals as goal
 
 pub returns : goal.returns

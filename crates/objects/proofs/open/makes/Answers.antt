@@ -1,6 +1,5 @@
 use mathlib.Core.Path.{◌∙◌}
 use Rattle.objects.proofs.Room.{makes-current, makes-process, makes-plain}
-use borrow.Author.Rules.{rules}
 use Rattle.objects.proofs.open.makes.Goals as goal
 
 pub returns-then-n : goal.returns-then-n

@@ -1,6 +1,5 @@
 use mathlib.Core.Path.{◌∙◌}
 use Rattle.objects.proofs.Room.{room-some, room-none}
-use borrow.Author.Rules.{rules}
 use Rattle.objects.proofs.open.no_room.Goals as goal
 
 pub returns-then-get32-ne0 : goal.returns-then-get32-ne0

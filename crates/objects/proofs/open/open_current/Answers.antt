@@ -4,7 +4,6 @@ use Rattle.block.specs.Block.{dec_block}
 use Rattle.object.specs.Kept.{of_current}
 use Rattle.objects.proofs.Opened.{opens_same}
 use Rattle.types.specs.declared.thread.ThreadOption.TheVariants.{NoThread}
-use borrow.Author.Rules.{rules}
 use Rattle.objects.proofs.open.open_current.Goals as goal
 
 pub returns-in-NoThread : goal.returns-in-NoThread

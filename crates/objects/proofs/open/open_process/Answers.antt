@@ -11,7 +11,6 @@ use Rattle.svc.specs.Call.{with_objects}
 use Rattle.rows.specs.Holds.{Holds}
 use Rattle.objects.specs.Open.{of_process}
 use Rattle.objects.proofs.Opened.{opens_same, process-kept, process-finding, opens_refused, opens_process}
-use borrow.Author.Rules.{rules}
 use Rattle.objects.proofs.open.open_process.Goals as goal
 
 pub returns-then-o-ne0 : goal.returns-then-o-ne0

@@ -15,7 +15,6 @@ use Rattle.svc.specs.Call.{with_objects}
 use Rattle.rows.specs.Holds.{Holds}
 use Rattle.objects.proofs.Opened.{opens_same, thread-kept, thread-finding, opens_refused, opens_thread}
 use Rattle.types.specs.declared.thread.ThreadOption.TheVariants.{SomeThread}
-use borrow.Author.Rules.{rules}
 use Rattle.objects.proofs.open.open_thread.Goals as goal
 
 pub returns-then-o-ne0 : goal.returns-then-o-ne0

@@ -2,7 +2,6 @@ use mathlib.Core.Path.{◌∙◌}
 use Rattle.rows.specs.Head.{sound-head}
 use Rattle.rows.specs.Holds.{holds}
 use Rattle.objects.proofs.Made.{inserted}
-use borrow.Author.Rules.{rules}
 use Rattle.objects.proofs.open.put_inserted.Goals as goal
 
 pub returns : goal.returns

@@ -7,7 +7,6 @@ use Rattle.svc.specs.Call.{resolved}
 use Rattle.objects.specs.Open.{Opens}
 use Rattle.objects.proofs.Opened.{opens_same}
 use Rattle.objects.proofs.Sound.{opened-block}
-use borrow.Author.Rules.{rules}
 use Rattle.objects.proofs.open.resolve.Goals as goal
 
 pub returns-then-n : goal.returns-then-n

@@ -1,7 +1,6 @@
 use mathlib.Core.Path.{refl, ap, sym, ◌∙◌}
 use mathlib.Core.Bool.{false}
 use Rattle.outcome.specs.Findings.{found_of, same-finding}
-use borrow.Author.Rules.{rules}
 use Rattle.objects.proofs.open.there.Goals as goal
 
 pub returns : goal.returns

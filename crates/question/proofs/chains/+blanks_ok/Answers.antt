@@ -3,8 +3,6 @@ use native.Mathlib.Omega.{arith}
 use Rattle.laws.specs.Walk.{walk-nil, walk-out}
 use Rattle.sound.specs.Records.{blanks?}
 use Rattle.question.specs.ObjectSteps.{blank-thread, blank-address, blank-go}
-use borrow.Author.Rules.{rules}
-use Prim.Native.Nat.{ℕ, ◌<◌}
 use Rattle.question.proofs.chains.+blanks_ok.Goals as goal
 
 pub returns-then-at-eq0 : goal.returns-then-at-eq0

@@ -3,8 +3,6 @@ use native.Mathlib.Omega.{arith}
 use Rattle.laws.specs.Walk.{walk-nil, walk-out}
 use Rattle.sound.specs.Records.{chain?}
 use Rattle.question.specs.ObjectSteps.{chain-thread, chain-twice, chain-go}
-use borrow.Author.Rules.{rules}
-use Prim.Native.Nat.{ℕ, ◌<◌}
 use Rattle.question.proofs.chains.+chain_ok.Goals as goal
 
 pub returns-then-at-eq0 : goal.returns-then-at-eq0

@@ -1,11 +1,8 @@
 use mathlib.Core.Path.{◌∙◌}
 use native.Mathlib.Omega.{arith}
-use mathlib.Core.Logic.{⊎_elim}
 use Rattle.laws.specs.Walk.{walk-nil, walk-out}
 use Rattle.sound.specs.Records.{has?}
 use Rattle.question.specs.ObjectSteps.{has-thread, has_here, has_address}
-use borrow.Author.Rules.{rules}
-use Prim.Native.Nat.{ℕ, ◌<◌}
 use Rattle.question.proofs.chains.+has_record.Goals as goal
 use Rattle.question.proofs.chains.+has_record.Goals.{then-cell-t+else-cell-a, else-cell-t}
 

@@ -5,8 +5,7 @@ use lib.ListN.{length, take}
 use Rattle.laws.specs.Logic.{and_no}
 use Rattle.question.specs.Apart.{outcome, length_marked, lone_met, code_nil, code_open, code_go}
 use Rattle.question.specs.ObjectSteps.{mark_nil, mark_out, mark_far, mark_go}
-use borrow.Author.Rules.{rules}
-use Prim.Native.Nat.{ℕ, ◌≤◌, ◌<◌}
+use Prim.Native.Nat.{◌≤◌}
 use Rattle.question.proofs.chains.+mark_apart.Goals as goal
 
 pub returns-then-apart : goal.returns-then-apart

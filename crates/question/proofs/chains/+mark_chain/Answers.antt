@@ -3,8 +3,6 @@ use native.Mathlib.Omega.{arith}
 use lib.ListN.{take}
 use Rattle.question.specs.ObjectSteps.{mark_nil, mark_out, mark_far, mark_go}
 use Rattle.question.proofs.Cells.{take_short}
-use borrow.Author.Rules.{rules}
-use Prim.Native.Nat.{ℕ, ◌<◌}
 use Rattle.question.proofs.chains.+mark_chain.Goals as goal
 
 pub returns-then-at-eq0 : goal.returns-then-at-eq0

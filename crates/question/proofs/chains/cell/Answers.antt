@@ -4,7 +4,6 @@ use Prim.Native.Nat.{◌-◌, ◌<◌}
 use Rattle.laws.specs.StoreTest.{at_out}
 use Rattle.question.specs.ObjectSteps.{at-cell, at_none}
 use Rattle.question.proofs.Cells.{take_short, take_get}
-use borrow.Author.Rules.{rules}
 use Rattle.question.proofs.chains.cell.Goals as goal
 
 pub returns-then-at-eq0 : goal.returns-then-at-eq0

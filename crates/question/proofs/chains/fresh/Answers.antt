@@ -1,7 +1,6 @@
 use borrow.Author.Tests.{lt-ltb, le-ltb, eq-eqb, ne_eqb}
 use Rattle.laws.specs.Logic.{◌and◌}
 use Rattle.question.specs.Apart.{fresh?, marked}
-use borrow.Author.Rules.{rules}
 use Rattle.question.proofs.chains.fresh.Goals as goal
 
 pub returns-then-t-ge32 : goal.returns-then-t-ge32

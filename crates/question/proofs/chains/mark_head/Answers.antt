@@ -7,7 +7,6 @@ use Rattle.laws.specs.Walk.{walk, walk-nil}
 use Rattle.sound.specs.Records.{chain?}
 use Rattle.question.specs.Apart.{outcome_open, outcome-ends, outcome-apart, apart-chain, lone_nil}
 use Rattle.question.specs.ObjectSteps.{mark_nil}
-use borrow.Author.Rules.{rules}
 use Rattle.question.proofs.chains.mark_head.Goals as goal
 
 pub returns-then-head-eq0 : goal.returns-then-head-eq0

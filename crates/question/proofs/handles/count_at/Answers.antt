@@ -1,7 +1,6 @@
 use native.Mathlib.Omega.{arith}
 use borrow.Author.Tests.{lt-ltb}
 use Rattle.laws.specs.Tally.{bump}
-use borrow.Author.Rules.{rules}
 use Rattle.question.proofs.handles.count_at.Goals as goal
 
 pub returns : goal.returns

@@ -2,7 +2,6 @@ use borrow.Author.Tests.{lt-ltb, le-leb, lt-leb}
 use native.Mathlib.Omega.{arith}
 use Rattle.laws.specs.Logic.{◌and◌}
 use Rattle.question.specs.Linear.{entry?}
-use borrow.Author.Rules.{rules}
 use Rattle.question.proofs.handles.entry_ok.Goals as goal
 
 pub returns-then-x-low : goal.returns-then-x-low

@@ -2,16 +2,16 @@ use mathlib.Core.Path.{◌≡◌, refl, ap, sym, ◌∙◌}
 use Prim.Native.Nat.{ℕ, ◌+◌, ◌-◌, ◌*◌, ◌≤◌, ◌<◌}
 use native.Mathlib.Omega.{arith}
 use lib.ListN.{length, get_or, take, drop, replicate}
-use borrow.Author.Tests.{lt-leb, le-leb, not-true, not-false}
+use borrow.Author.Tests.{lt-leb, le-leb}
 use Rattle.laws.specs.Logic.{and_no, and_yes, false-true}
-use Rattle.laws.specs.Tally.{tally, tally-more, length-bump, zero-le}
+use Rattle.laws.specs.Tally.{tally-more, length-bump, zero-le}
 use Rattle.codec.specs.Bytes.{same}
 use Rattle.codec.proofs.Fit.{length-dec_all}
 use Rattle.types.specs.declared.object.HandleEntry.{HandleEntry}
 use Rattle.block.specs.Table.{dec_entry}
 use Rattle.block.specs.Tables.{entries_in, row_at}
-use Rattle.tally.specs.Lists.{name_of, handle_names}
-use Rattle.sound.specs.Handles.{rising?, no_entries?}
+use Rattle.tally.specs.Lists.{name_of}
+use Rattle.sound.specs.Handles.{no_entries?}
 use Rattle.question.specs.Linear.{entry?}
 use Rattle.question.proofs.Steps.{rising_step, rising-end, rising-far, entry-names, entry-object, count-more, none-tally}
 use Rattle.question.proofs.Entries.{rows_drop, none-zero}

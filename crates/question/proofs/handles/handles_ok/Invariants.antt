@@ -1,21 +1,10 @@
-use mathlib.Core.Path.{◌≡◌, refl, ap, sym, ◌∙◌}
-use Prim.Native.Nat.{ℕ, ◌+◌, ◌-◌, ◌*◌, ◌≤◌, ◌<◌}
-use native.Mathlib.Omega.{arith}
-use lib.ListN.{length, get_or, take, drop, replicate}
-use borrow.Author.Tests.{lt-leb, le-leb, not-true, not-false}
-use Rattle.laws.specs.Logic.{and_no, and_yes, false-true}
-use Rattle.laws.specs.Tally.{tally, tally-more, length-bump, zero-le}
-use Rattle.codec.specs.Bytes.{same}
-use Rattle.codec.proofs.Fit.{length-dec_all}
-use Rattle.types.specs.declared.object.HandleEntry.{HandleEntry}
-use Rattle.block.specs.Table.{dec_entry}
-use Rattle.block.specs.Tables.{entries_in, row_at}
-use Rattle.tally.specs.Lists.{name_of, handle_names}
-use Rattle.sound.specs.Handles.{rising?, no_entries?}
-use Rattle.question.specs.Linear.{entry?}
-use Rattle.question.proofs.Steps.{rising_step, rising-end, rising-far, entry-names, entry-object, count-more, none-tally}
-use Rattle.question.proofs.Entries.{rows_drop, none-zero}
-use borrow.Author.Rules.{rules}
+use mathlib.Core.Path.{◌≡◌}
+use Prim.Native.Nat.{ℕ, ◌-◌, ◌≤◌}
+use lib.ListN.{length, get_or, drop}
+use Rattle.laws.specs.Tally.{tally}
+use Rattle.block.specs.Tables.{entries_in}
+use Rattle.tally.specs.Lists.{handle_names}
+use Rattle.sound.specs.Handles.{rising?}
 use Rattle.question.proofs.handles.handles_ok.Given as goal
 
 abbrev pub invariant-loop-i : goal.invariant-loop-i

@@ -1,13 +1,13 @@
 use mathlib.Core.Path.{◌≡◌, refl, sym, ◌∙◌}
-use Prim.Native.Nat.{◌-◌, ◌≤◌, ◌<◌}
+use Prim.Native.Nat.{◌≤◌, ◌<◌}
 use native.Mathlib.Omega.{arith}
-use lib.ListN.{length, drop}
-use Rattle.laws.specs.Tally.{tally, tally-more, tally-none}
+use lib.ListN.{length}
+use Rattle.laws.specs.Tally.{tally-more, tally-none}
 use Rattle.block.specs.Table.{dec_id}
 use Rattle.block.specs.Tables.{kept_in, row_at}
 use Rattle.codec.proofs.Fit.{length-dec_all}
 use Rattle.units.specs.declared.ObjectId.{ObjectId}
-use Rattle.tally.specs.Lists.{name_of, names}
+use Rattle.tally.specs.Lists.{name_of}
 use borrow.Author.Rules.{rules}
 use Rattle.question.proofs.names.tally_kept.Goals as goal
 

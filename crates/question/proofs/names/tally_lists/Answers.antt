@@ -1,14 +1,14 @@
 use mathlib.Core.Path.{◌≡◌, refl, sym, ◌∙◌}
-use Prim.Native.Nat.{◌-◌, ◌≤◌, ◌<◌}
+use Prim.Native.Nat.{◌≤◌, ◌<◌}
 use native.Mathlib.Omega.{arith}
-use lib.ListN.{length, drop}
-use Rattle.laws.specs.Tally.{tally_all, tally_all-more, tally_all-none}
+use lib.ListN.{length}
+use Rattle.laws.specs.Tally.{tally_all-more, tally_all-none}
 use Rattle.block.specs.Thread.{dec_thread}
 use Rattle.block.specs.Tables.{threads_in, row_at}
 use Rattle.codec.proofs.Fit.{length-dec_all}
 use Rattle.types.specs.declared.thread.Thread.{Thread}
 use Rattle.sound.specs.View.{no_thread}
-use Rattle.tally.specs.Lists.{names, list_names}
+use Rattle.tally.specs.Lists.{names}
 use borrow.Author.Rules.{rules}
 use Rattle.question.proofs.names.tally_lists.Goals as goal
 

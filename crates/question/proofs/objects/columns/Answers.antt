@@ -1,15 +1,15 @@
 use mathlib.Core.Path.{◌≡◌, refl, sym, ◌∙◌}
 use Prim.Native.Nat.{ℕ, ◌-◌, ◌≤◌}
 use native.Mathlib.Omega.{arith}
-use lib.ListN.{length, drop}
+use lib.ListN.{length}
 use Rattle.laws.specs.Logic.{◌and◌}
 use Rattle.codec.proofs.Fit.{◌&◌, length-dec_all}
 use Rattle.types.specs.declared.object.Slot.{Slot}
 use Rattle.types.specs.Object.{kind_number, next_of, head_of}
 use Rattle.block.specs.Slot.{dec_slot}
 use Rattle.block.specs.Tables.{slots_in, row_at}
-use Rattle.sound.specs.View.{kinds, refs, nexts, heads, no_slot}
-use Rattle.question.specs.LinearObjects.{named_of, named, contents_by?}
+use Rattle.sound.specs.View.{no_slot}
+use Rattle.question.specs.LinearObjects.{named_of}
 use Rattle.question.specs.ObjectSteps.{column_start, column_more, column_done, contents-more, contents-end}
 use borrow.Author.Rules.{rules}
 use Rattle.question.proofs.objects.columns.Goals as goal

@@ -1,17 +1,10 @@
-use mathlib.Core.Path.{◌≡◌, refl, sym, ◌∙◌}
-use Prim.Native.Nat.{ℕ, ◌-◌, ◌≤◌}
-use native.Mathlib.Omega.{arith}
+use mathlib.Core.Path.{◌≡◌}
+use Prim.Native.Nat.{◌≤◌}
 use lib.ListN.{length, drop}
 use Rattle.laws.specs.Logic.{◌and◌}
-use Rattle.codec.proofs.Fit.{◌&◌, length-dec_all}
-use Rattle.types.specs.declared.object.Slot.{Slot}
-use Rattle.types.specs.Object.{kind_number, next_of, head_of}
-use Rattle.block.specs.Slot.{dec_slot}
-use Rattle.block.specs.Tables.{slots_in, row_at}
-use Rattle.sound.specs.View.{kinds, refs, nexts, heads, no_slot}
-use Rattle.question.specs.LinearObjects.{named_of, named, contents_by?}
-use Rattle.question.specs.ObjectSteps.{column_start, column_more, column_done, contents-more, contents-end}
-use borrow.Author.Rules.{rules}
+use Rattle.block.specs.Tables.{slots_in}
+use Rattle.sound.specs.View.{kinds, refs, nexts, heads}
+use Rattle.question.specs.LinearObjects.{named, contents_by?}
 use Rattle.question.proofs.objects.columns.Given as goal
 
 abbrev pub invariant-loop-i : goal.invariant-loop-i

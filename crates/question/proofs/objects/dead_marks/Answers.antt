@@ -1,13 +1,13 @@
 use mathlib.Core.Path.{◌≡◌, refl, ◌∙◌}
-use Prim.Native.Nat.{◌-◌, ◌≤◌, ◌<◌}
+use Prim.Native.Nat.{◌≤◌, ◌<◌}
 use native.Mathlib.Omega.{arith}
-use lib.ListN.{length, take}
+use lib.ListN.{length}
 use Rattle.block.specs.Thread.{dec_thread}
 use Rattle.block.specs.Tables.{threads_in, row_at}
 use Rattle.codec.proofs.Fit.{length-dec_all}
 use Rattle.types.specs.declared.thread.Thread.{Thread}
 use Rattle.sound.specs.View.{no_thread}
-use Rattle.question.specs.LinearObjects.{dead_mark, dead_marks}
+use Rattle.question.specs.LinearObjects.{dead_mark}
 use Rattle.tally.specs.Columns.{map_more, map-done}
 use borrow.Author.Rules.{rules}
 use Rattle.question.proofs.objects.dead_marks.Goals as goal

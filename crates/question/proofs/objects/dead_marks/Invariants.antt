@@ -1,15 +1,8 @@
-use mathlib.Core.Path.{◌≡◌, refl, ◌∙◌}
-use Prim.Native.Nat.{◌-◌, ◌≤◌, ◌<◌}
-use native.Mathlib.Omega.{arith}
+use mathlib.Core.Path.{◌≡◌}
+use Prim.Native.Nat.{◌-◌, ◌≤◌}
 use lib.ListN.{length, take}
-use Rattle.block.specs.Thread.{dec_thread}
-use Rattle.block.specs.Tables.{threads_in, row_at}
-use Rattle.codec.proofs.Fit.{length-dec_all}
-use Rattle.types.specs.declared.thread.Thread.{Thread}
-use Rattle.sound.specs.View.{no_thread}
-use Rattle.question.specs.LinearObjects.{dead_mark, dead_marks}
-use Rattle.tally.specs.Columns.{map_more, map-done}
-use borrow.Author.Rules.{rules}
+use Rattle.block.specs.Tables.{threads_in}
+use Rattle.question.specs.LinearObjects.{dead_marks}
 use Rattle.question.proofs.objects.dead_marks.Given as goal
 
 abbrev pub invariant-loop-i : goal.invariant-loop-i

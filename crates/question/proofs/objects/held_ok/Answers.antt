@@ -3,9 +3,7 @@ use native.Mathlib.Omega.{arith}
 use lib.ListN.{take}
 use lib.Seq.{take_all}
 use Rattle.codec.proofs.Same.{length_part}
-use borrow.Author.Rules.{rules}
 use mathlib.Core.Path.{sym, ◌∙◌}
-use borrow.Author.Tests.{not-true, not-false}
 use Rattle.laws.specs.Logic.{and_no, and_yes}
 use Rattle.question.proofs.objects.held_ok.Goals as goal
 

@@ -1,7 +1,5 @@
 use mathlib.Core.Path.{sym, ◌∙◌}
-use borrow.Author.Tests.{not-true, not-false}
 use Rattle.laws.specs.Logic.{◌and◌}
-use borrow.Author.Rules.{rules}
 use Rattle.question.proofs.objects.kept_in.Goals as goal
 
 pub returns-then-not-kept_numbers_ok : goal.returns-then-not-kept_numbers_ok

@@ -1,12 +1,9 @@
-use mathlib.Core.Path.{◌≡◌, refl, sym, ◌∙◌}
-use Prim.Native.Nat.{◌-◌, ◌≤◌}
+use mathlib.Core.Path.{refl, sym, ◌∙◌}
+use Prim.Native.Nat.{◌-◌}
 use native.Mathlib.Omega.{arith}
-use borrow.Author.Tests.{not-true, not-false}
 use Rattle.laws.specs.Logic.{and_no, and_yes}
 use Rattle.block.specs.Table.{dec_id}
 use Rattle.block.specs.Tables.{kept_in, row_at}
-use Rattle.sound.specs.View.{ids}
-use Rattle.question.specs.LinearObjects.{kept_threads?}
 use Rattle.question.specs.ObjectSteps.{kept_step, kept-end}
 use borrow.Author.Rules.{rules}
 use Rattle.question.proofs.objects.kept_threads_ok.Goals as goal

@@ -4,7 +4,6 @@ use lib.Dec.{eqb}
 use lib.ListN.{get_or-eq_default}
 use Rattle.laws.specs.Count.{get_any}
 use Rattle.question.specs.LinearObjects.{live?}
-use borrow.Author.Rules.{rules}
 use Rattle.question.proofs.objects.live.Goals as goal
 
 pub returns-then-d-i : goal.returns-then-d-i

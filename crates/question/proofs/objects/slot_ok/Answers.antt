@@ -1,7 +1,6 @@
 use Rattle.laws.specs.Logic.{◌and◌}
 use borrow.Author.Tests.{eq-eqb, ne_eqb}
 use Rattle.question.specs.Linear.{slot?}
-use borrow.Author.Rules.{rules}
 use Rattle.question.proofs.objects.slot_ok.Goals as goal
 
 pub returns-then-refs-n : goal.returns-then-refs-n

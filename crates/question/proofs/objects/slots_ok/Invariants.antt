@@ -1,13 +1,8 @@
-use mathlib.Core.Path.{◌≡◌, refl, ap, sym, ◌∙◌}
-use mathlib.Core.Bool.{Bool}
-use Prim.Native.Nat.{ℕ, ◌+◌, ◌-◌, ◌≤◌}
-use native.Mathlib.Omega.{arith}
+use mathlib.Core.Path.{◌≡◌}
+use Prim.Native.Nat.{◌+◌, ◌≤◌}
 use lib.Dec.{eqb}
-use Rattle.laws.specs.Logic.{◌and◌, and-end}
+use Rattle.laws.specs.Logic.{◌and◌}
 use Rattle.question.specs.Linear.{slots?}
-use Rattle.question.specs.ObjectSteps.{slots-step, slots_end}
-use Rattle.question.proofs.Steps.{fault-turn, fault-small}
-use borrow.Author.Rules.{rules}
 use Rattle.question.proofs.objects.slots_ok.Given as goal
 
 abbrev pub invariant-loop-o : goal.invariant-loop-o

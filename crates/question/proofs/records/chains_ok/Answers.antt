@@ -1,9 +1,6 @@
-use mathlib.Core.Path.{◌≡◌, refl, sym, ◌∙◌}
-use Prim.Native.Nat.{◌≤◌}
+use mathlib.Core.Path.{refl, sym, ◌∙◌}
 use lib.ListN.{take}
-use borrow.Author.Tests.{not-true, not-false}
 use Rattle.laws.specs.Logic.{and_no, and_yes}
-use Rattle.question.specs.LinearObjects.{chains_by?}
 use Rattle.question.specs.ObjectSteps.{chains-step, chains-end}
 use borrow.Author.Rules.{rules}
 use Rattle.question.proofs.records.chains_ok.Goals as goal

@@ -1,16 +1,8 @@
-use mathlib.Core.Path.{◌≡◌, refl, ap, ◌∙◌}
-use mathlib.Core.List.{List}
-use Prim.Native.Nat.{◌-◌, ◌≤◌, ◌<◌}
-use native.Mathlib.Omega.{arith}
+use mathlib.Core.Path.{◌≡◌}
+use Prim.Native.Nat.{◌-◌, ◌≤◌}
 use lib.ListN.{length, take}
-use lib.Seq.{take_all}
-use Rattle.codec.proofs.Fit.{◌&◌, length-dec_all}
-use Rattle.types.specs.declared.object.Waiter.{Waiter}
-use Rattle.block.specs.Table.{dec_waiter}
-use Rattle.block.specs.Tables.{waiters_in, row_at}
+use Rattle.block.specs.Tables.{waiters_in}
 use Rattle.sound.specs.View.{waiter_nexts, waiter_threads, waiter_addresses}
-use Rattle.tally.specs.Columns.{map_more}
-use borrow.Author.Rules.{rules}
 use Rattle.question.proofs.records.columns.Given as goal
 
 abbrev pub invariant-loop-i : goal.invariant-loop-i

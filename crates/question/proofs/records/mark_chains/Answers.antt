@@ -1,13 +1,11 @@
 use mathlib.Core.Path.{◌≡◌, refl, sym, ◌∙◌}
 use mathlib.Core.Bool.{true}
-use mathlib.Core.List.{List}
-use Prim.Native.Nat.{ℕ, ◌-◌, ◌≤◌, ◌<◌}
+use Prim.Native.Nat.{◌≤◌, ◌<◌}
 use native.Mathlib.Omega.{arith}
-use lib.ListN.{length, take, drop}
+use lib.ListN.{length, take}
 use Rattle.laws.specs.Logic.{and_no, and_yes}
 use Rattle.laws.specs.Walk.{walk}
-use Rattle.laws.specs.Tally.{tally_all, tally_all-more, tally_all-none}
-use Rattle.question.specs.LinearObjects.{lone_all?, chains_by?, walk_all}
+use Rattle.laws.specs.Tally.{tally_all-more, tally_all-none}
 use Rattle.question.specs.ObjectSteps.{chains-next, chains-end, lone_more, lone_none}
 use borrow.Author.Rules.{rules}
 use Rattle.question.proofs.records.mark_chains.Goals as goal

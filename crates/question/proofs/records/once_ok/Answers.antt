@@ -1,8 +1,6 @@
-use mathlib.Core.Path.{◌≡◌, refl, sym, ◌∙◌}
-use Prim.Native.Nat.{◌≤◌}
+use mathlib.Core.Path.{refl, sym, ◌∙◌}
 use borrow.Author.Tests.{eq-eqb, ne_eqb}
 use Rattle.laws.specs.Logic.{and_no, and_yes}
-use Rattle.question.specs.LinearObjects.{once_all?}
 use Rattle.question.specs.ObjectSteps.{once-step, once-end}
 use borrow.Author.Rules.{rules}
 use Rattle.question.proofs.records.once_ok.Goals as goal

@@ -1,13 +1,11 @@
 use mathlib.Core.Path.{ap, sym, ◌∙◌}
 use lib.ListN.{length, length-map}
-use borrow.Author.Tests.{not-true, not-false}
 use Rattle.laws.specs.Logic.{and_no, and_yes}
 use Rattle.codec.proofs.Fit.{length-dec_all}
 use Rattle.types.specs.declared.object.Waiter.{Waiter}
 use Rattle.block.specs.Table.{dec_waiter}
 use Rattle.block.specs.Tables.{waiters_in}
 use Rattle.question.specs.LinearObjects.{records_by?}
-use borrow.Author.Rules.{rules}
 use Rattle.question.proofs.records.records_ok.Goals as goal
 
 pub shared_out-requires : goal.shared_out-requires

@@ -1,10 +1,8 @@
 use mathlib.Core.Path.{sym, ◌∙◌}
 use lib.ListN.{take, replicate}
-use borrow.Author.Tests.{not-true, not-false}
 use Rattle.laws.specs.Logic.{true-and, and_no, and_yes}
 use Rattle.question.specs.LinearObjects.{shared_out?, fine_pool?}
 use Rattle.question.specs.Lone.{not_shared, lone_ends}
-use borrow.Author.Rules.{rules}
 use Rattle.question.proofs.records.shared_out.Goals as goal
 
 pub returns-then-found-eq0 : goal.returns-then-found-eq0

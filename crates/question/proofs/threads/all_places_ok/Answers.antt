@@ -1,12 +1,11 @@
-use mathlib.Core.Path.{◌≡◌, refl, sym, ap, ◌∙◌}
-use Prim.Native.Nat.{◌-◌, ◌≤◌}
+use mathlib.Core.Path.{refl, sym, ap, ◌∙◌}
+use Prim.Native.Nat.{◌-◌}
 use native.Mathlib.Omega.{arith}
-use borrow.Author.Tests.{not-true, not-false}
 use Rattle.laws.specs.Logic.{and_no, and_yes}
-use Rattle.laws.specs.Numbers.{all_below, all_to-step, all_to-end}
+use Rattle.laws.specs.Numbers.{all_to-step, all_to-end}
 use Rattle.block.specs.Thread.{dec_thread}
-use Rattle.block.specs.Tables.{threads_in, row_at}
-use Rattle.sound.specs.View.{no_thread, thread_at}
+use Rattle.block.specs.Tables.{row_at}
+use Rattle.sound.specs.View.{no_thread}
 use Rattle.sound.specs.Threads.{place?}
 use Rattle.question.specs.Linear.{places32?}
 use borrow.Author.Rules.{rules}

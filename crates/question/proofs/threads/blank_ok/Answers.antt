@@ -1,9 +1,7 @@
 use mathlib.Core.Path.{ap, sym, ◌∙◌}
-use borrow.Author.Tests.{not-true, not-false}
 use Rattle.laws.specs.Logic.{and_no, and_yes}
 use Rattle.block.specs.Thread.{words_list}
 use Rattle.sound.specs.Threads.{zeros?, places?, blank?}
-use borrow.Author.Rules.{rules}
 use Rattle.question.proofs.threads.blank_ok.Goals as goal
 
 pub returns-then-not-words_zero : goal.returns-then-not-words_zero

@@ -1,14 +1,8 @@
-use mathlib.Core.Path.{◌≡◌, sym, ◌∙◌}
-use Prim.Native.Nat.{◌-◌, ◌≤◌, ◌<◌}
-use native.Mathlib.Numerals.{unary_clauses}
-use native.Mathlib.Omega.{arith}
-use lib.ListN.{length, drop}
-use borrow.Author.Tests.{eq-eqb, ne_eqb}
-use Rattle.laws.specs.Logic.{and_no, and_yes}
+use mathlib.Core.Path.{◌≡◌}
+use Prim.Native.Nat.{◌-◌, ◌≤◌}
+use lib.ListN.{drop}
 use Rattle.sound.specs.View.{ids}
 use Rattle.sound.specs.Threads.{places?}
-use Rattle.question.proofs.Steps.{zeros_step, places-end}
-use borrow.Author.Rules.{rules}
 use Rattle.types.specs.Thread.{wait_list}
 use Rattle.question.proofs.threads.none_ok.Given as goal
 

@@ -1,6 +1,5 @@
 use borrow.Author.Tests.{lt-ltb, le-ltb}
 use Rattle.sound.specs.Threads.{place?}
-use borrow.Author.Rules.{rules}
 use Rattle.question.proofs.threads.place_ok.Goals as goal
 
 pub returns-then-i-n : goal.returns-then-i-n

@@ -2,7 +2,6 @@ use mathlib.Core.Path.{ap, sym, ◌∙◌}
 use Prim.Native.Nat.{ℕ}
 use Rattle.sound.specs.View.{ids}
 use Rattle.sound.specs.Threads.{places?}
-use borrow.Author.Rules.{rules}
 use Rattle.question.proofs.threads.places_ok.Goals as goal
 
 pub returns-then-n-eq0 : goal.returns-then-n-eq0

@@ -1,16 +1,10 @@
-use mathlib.Core.Path.{◌≡◌, ap, sym, ◌∙◌}
-use mathlib.Core.Bool.{Bool}
-use Prim.Native.Nat.{ℕ, ◌+◌, ◌-◌, ◌≤◌, ◌<◌}
-use native.Mathlib.Numerals.{unary_clauses}
-use native.Mathlib.Omega.{arith}
+use mathlib.Core.Path.{◌≡◌}
+use Prim.Native.Nat.{◌-◌, ◌≤◌}
 use lib.Dec.{eqb}
-use lib.ListN.{length, drop}
-use borrow.Author.Tests.{eq-eqb, ne_eqb}
-use Rattle.laws.specs.Logic.{◌and◌, and_no, and_yes}
+use lib.ListN.{drop}
+use Rattle.laws.specs.Logic.{◌and◌}
 use Rattle.sound.specs.View.{ids}
 use Rattle.sound.specs.Threads.{places?}
-use Rattle.question.proofs.Steps.{fault-turn, fault-small, places-step, places-end}
-use borrow.Author.Rules.{rules}
 use Rattle.types.specs.Thread.{wait_list}
 use Rattle.question.proofs.threads.some_ok.Given as goal
 

@@ -1,10 +1,9 @@
 use mathlib.Core.Path.{ap, sym, ◌∙◌}
-use borrow.Author.Tests.{le-leb, lt-leb, not-true, not-false}
+use borrow.Author.Tests.{le-leb, lt-leb}
 use Rattle.laws.specs.Logic.{and_no, and_yes}
 use Rattle.sound.specs.Threads.{thread?}
 use Rattle.question.specs.Linear.{runs?}
 use Rattle.question.proofs.Steps.{runs-is}
-use borrow.Author.Rules.{rules}
 use Rattle.question.proofs.threads.thread_ok.Goals as goal
 
 pub returns-then-t-gt63 : goal.returns-then-t-gt63

@@ -1,9 +1,8 @@
 use mathlib.Core.Path.{sym, ◌∙◌}
-use borrow.Author.Tests.{le-leb, lt-leb, not-true, not-false}
+use borrow.Author.Tests.{le-leb, lt-leb}
 use Rattle.laws.specs.Logic.{and_no, and_yes}
 use Rattle.sound.specs.Threads.{threads?}
 use Rattle.question.specs.Linear.{places32?}
-use borrow.Author.Rules.{rules}
 use Rattle.question.proofs.threads.threads_ok.Goals as goal
 
 pub returns-then-n-gt32 : goal.returns-then-n-gt32

@@ -1,8 +1,7 @@
 use mathlib.Core.Path.{sym, ◌∙◌}
-use borrow.Author.Tests.{eq-eqb, ne_eqb, not-true, not-false}
+use borrow.Author.Tests.{eq-eqb, ne_eqb}
 use Rattle.laws.specs.Logic.{and_no, and_yes}
 use Rattle.question.proofs.Steps.{four_zeros, two_zeros}
-use borrow.Author.Rules.{rules}
 use Rattle.question.proofs.threads.words_zero.Goals as goal
 
 pub returns-then-not-four_zero : goal.returns-then-not-four_zero

@@ -1,15 +1,14 @@
 use mathlib.Core.Path.{◌≡◌, refl, ap, sym, ◌∙◌}
-use Prim.Native.Nat.{◌-◌, ◌≤◌, ◌<◌}
+use Prim.Native.Nat.{◌≤◌, ◌<◌}
 use native.Mathlib.Omega.{arith}
-use lib.ListN.{length, drop}
-use borrow.Author.Tests.{not-true, not-false}
+use lib.ListN.{length}
 use Rattle.laws.specs.Logic.{and_no, and_yes}
 use Rattle.block.specs.Thread.{dec_thread}
 use Rattle.block.specs.Tables.{threads_in, row_at}
 use Rattle.codec.proofs.Fit.{length-dec_all}
 use Rattle.types.specs.declared.thread.Thread.{Thread}
 use Rattle.sound.specs.View.{no_thread}
-use Rattle.sound.specs.Tls.{held, held-end, below?}
+use Rattle.sound.specs.Tls.{held-end, below?}
 use Rattle.tally.specs.Lists.{slot_of}
 use Rattle.question.proofs.Steps.{below-held}
 use borrow.Author.Rules.{rules}

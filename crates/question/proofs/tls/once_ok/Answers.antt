@@ -1,10 +1,7 @@
-use mathlib.Core.Path.{◌≡◌, refl, sym, ◌∙◌}
-use Prim.Native.Nat.{◌-◌, ◌≤◌}
-use lib.Dec.{leb}
-use lib.ListN.{get_or}
+use mathlib.Core.Path.{refl, sym, ◌∙◌}
 use borrow.Author.Tests.{le-leb, lt-leb}
 use Rattle.laws.specs.Logic.{and_no, and_yes}
-use Rattle.laws.specs.Numbers.{all_below, all_to-step, all_to-end}
+use Rattle.laws.specs.Numbers.{all_to-step, all_to-end}
 use Rattle.question.specs.Linear.{once32?}
 use borrow.Author.Rules.{rules}
 use Rattle.question.proofs.tls.once_ok.Goals as goal

@@ -1,7 +1,6 @@
 use mathlib.Core.Path.{sym, ◌∙◌}
 use Rattle.laws.specs.Logic.{and-end}
 use Rattle.sound.specs.Tls.{below?}
-use borrow.Author.Rules.{rules}
 use Rattle.question.proofs.tls.slot_below.Goals as goal
 
 pub returns-then-is_dead : goal.returns-then-is_dead

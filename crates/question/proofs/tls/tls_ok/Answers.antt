@@ -2,12 +2,11 @@ use Rattle.codec.proofs.Fit.{length-dec_all}
 use Rattle.block.specs.Thread.{dec_thread}
 use Rattle.block.specs.Tables.{threads_in}
 use mathlib.Core.Path.{ap, sym, ◌∙◌}
-use borrow.Author.Tests.{le-leb, lt-leb, not-true, not-false}
+use borrow.Author.Tests.{le-leb, lt-leb}
 use Rattle.laws.specs.Logic.{and_no, and_yes}
 use Rattle.sound.specs.Tls.{tls?}
 use Rattle.question.specs.Linear.{once32?}
 use Rattle.question.specs.SameTls.{once_is}
-use borrow.Author.Rules.{rules}
 use Rattle.question.proofs.tls.tls_ok.Goals as goal
 
 pub returns-then-next-gt32 : goal.returns-then-next-gt32

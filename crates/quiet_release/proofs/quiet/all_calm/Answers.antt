@@ -1,12 +1,11 @@
-use mathlib.Core.Path.{◌≡◌, refl, sym, ap, ◌∙◌}
-use Prim.Native.Nat.{◌-◌, ◌≤◌, ◌<◌}
+use mathlib.Core.Path.{refl, sym, ap, ◌∙◌}
+use Prim.Native.Nat.{◌<◌}
 use native.Mathlib.Omega.{arith}
-use lib.ListN.{length, drop}
+use lib.ListN.{length}
 use borrow.Author.Rules.{rules}
-use borrow.Author.Tests.{not-true, not-false}
 use Rattle.types.specs.declared.thread.Thread.{Thread}
 use Rattle.block.specs.Block.{dec_block}
-use Rattle.pass.specs.Asks.{calm, calm_from}
+use Rattle.pass.specs.Asks.{calm}
 use Rattle.rows.specs.Sizes.{size-threads}
 use Rattle.due.proofs.Looked.{thread-is}
 use Rattle.quiet_release.proofs.Calm.{calm-no, calm-yes, calm-end}

@@ -1,15 +1,8 @@
-use mathlib.Core.Path.{◌≡◌, refl, sym, ap, ◌∙◌}
-use Prim.Native.Nat.{◌-◌, ◌≤◌, ◌<◌}
-use native.Mathlib.Omega.{arith}
-use lib.ListN.{length, drop}
-use borrow.Author.Rules.{rules}
-use borrow.Author.Tests.{not-true, not-false}
-use Rattle.types.specs.declared.thread.Thread.{Thread}
+use mathlib.Core.Path.{◌≡◌}
+use Prim.Native.Nat.{◌-◌, ◌≤◌}
+use lib.ListN.{drop}
 use Rattle.block.specs.Block.{dec_block}
-use Rattle.pass.specs.Asks.{calm, calm_from}
-use Rattle.rows.specs.Sizes.{size-threads}
-use Rattle.due.proofs.Looked.{thread-is}
-use Rattle.quiet_release.proofs.Calm.{calm-no, calm-yes, calm-end}
+use Rattle.pass.specs.Asks.{calm_from}
 use Rattle.quiet_release.proofs.quiet.all_calm.Given as goal
 
 abbrev pub invariant-loop-i : goal.invariant-loop-i

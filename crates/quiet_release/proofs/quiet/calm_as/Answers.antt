@@ -1,4 +1,3 @@
-use borrow.Author.Rules.{rules}
 use Rattle.quiet_release.proofs.quiet.calm_as.Goals as goal
 
 pub returns-in-Dead : goal.returns-in-Dead

@@ -1,4 +1,3 @@
-use borrow.Author.Rules.{rules}
 use Rattle.quiet_release.proofs.quiet.frees_quietly.Goals as goal
 
 pub returns-in-NoThread : goal.returns-in-NoThread

@@ -1,11 +1,8 @@
-use mathlib.Core.Path.{◌≡◌, refl, sym, ap, ◌∙◌}
+use mathlib.Core.Path.{◌≡◌}
 use Prim.Native.Nat.{◌-◌, ◌≤◌}
-use native.Mathlib.Omega.{arith}
 use lib.ListN.{drop}
-use borrow.Author.Rules.{rules}
 use Rattle.block.specs.Block.{dec_block}
-use Rattle.due.proofs.Looked.{look_hit, look_miss, look_end}
-use Rattle.quiet_release.proofs.Still.{moves, any_moves, moves-none, moves_more, still-no, still-yes}
+use Rattle.quiet_release.proofs.Still.{any_moves}
 use Rattle.quiet_release.proofs.quiet.none_due.Given as goal
 
 abbrev pub invariant-loop-i : goal.invariant-loop-i

@@ -1,4 +1,3 @@
-use borrow.Author.Rules.{rules}
 use Rattle.quiet_release.proofs.quiet.not_waiting.Goals as goal
 
 pub returns : goal.returns

@@ -1,6 +1,5 @@
 use mathlib.Core.Path.{◌∙◌}
 use Rattle.block.specs.Block.{dec_block}
-use borrow.Author.Rules.{rules}
 use Rattle.quiet_release.proofs.Calm.{release-is}
 use Rattle.quiet_release.proofs.quiet.quiet_release.Goals as goal
 

@@ -1,4 +1,3 @@
-use borrow.Author.Rules.{rules}
 use Rattle.quiet_release.proofs.quiet.release_as.Goals as goal
 
 pub returns-in-Free : goal.returns-in-Free

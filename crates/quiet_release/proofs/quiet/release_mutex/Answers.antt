@@ -1,6 +1,5 @@
 use mathlib.Core.Path.{ap, ◌∙◌}
 use borrow.Author.Tests.{lt-ltb, le-ltb}
-use borrow.Author.Rules.{rules}
 use Rattle.types.specs.declared.thread.ThreadOption.{ThreadOption}
 use Rattle.block.specs.Block.{dec_block}
 use Rattle.pass.specs.Asks.{frees_quietly}

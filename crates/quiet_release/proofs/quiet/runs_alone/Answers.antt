@@ -1,6 +1,4 @@
 use mathlib.Core.Path.{sym, ◌∙◌}
-use borrow.Author.Tests.{not-true, not-false}
-use borrow.Author.Rules.{rules}
 use Rattle.laws.specs.Logic.{◌and◌}
 use Rattle.types.specs.Tests.{no-result-number, no_syscall_number}
 use Rattle.quiet_release.proofs.quiet.runs_alone.Goals as goal

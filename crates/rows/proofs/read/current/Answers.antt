@@ -2,7 +2,6 @@ use mathlib.Core.Path.{◌∙◌}
 use Rattle.codec.specs.Layout.{dec_as}
 use Rattle.types.specs.Thread.{thread_option}
 use Rattle.block.specs.Block.{dec_block}
-use borrow.Author.Rules.{rules}
 use Rattle.rows.proofs.read.current.Goals as goal
 
 pub returns : goal.returns

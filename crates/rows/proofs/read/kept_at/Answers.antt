@@ -6,7 +6,6 @@ use Rattle.units.specs.declared.ObjectId.{ObjectId}
 use Rattle.block.specs.Table.{dec_id}
 use Rattle.block.specs.Tables.{row_at, kept_in}
 use Rattle.object.proofs.Laws.{kept-far, kept_in_lem}
-use borrow.Author.Rules.{rules}
 use Rattle.rows.proofs.read.kept_at.Goals as goal
 
 pub returns-then-t-ge32 : goal.returns-then-t-ge32

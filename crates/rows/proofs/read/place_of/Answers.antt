@@ -1,13 +1,11 @@
-use mathlib.Core.Path.{◌≡◌, ap, sym, ◌∙◌}
-use Prim.Native.Nat.{◌+◌, ◌-◌, ◌≤◌}
+use mathlib.Core.Path.{ap, sym, ◌∙◌}
 use native.Mathlib.Omega.{arith}
-use lib.ListN.{drop}
 use Rattle.codec.proofs.Fit.{length-dec_all}
 use Rattle.types.specs.declared.object.HandleEntry.{HandleEntry}
 use Rattle.block.specs.Block.{dec_block}
 use Rattle.block.specs.Table.{dec_entry}
 use Rattle.block.specs.Tables.{row_at, entries_in}
-use Rattle.object.specs.Handles.{place_of, no_entry}
+use Rattle.object.specs.Handles.{no_entry}
 use Rattle.object.proofs.Laws.{place_hit, place_miss, place_end}
 use borrow.Author.Rules.{rules}
 use Rattle.rows.proofs.read.place_of.Goals as goal

@@ -8,7 +8,6 @@ use Rattle.block.specs.Block.{dec_block}
 use Rattle.block.specs.Table.{dec_entry}
 use Rattle.block.specs.Tables.{row_at, entries_in}
 use Rattle.object.specs.Handles.{object_of, no_entry}
-use borrow.Author.Rules.{rules}
 use Rattle.rows.proofs.read.resolve.Goals as goal
 
 pub returns-then-i-ge256 : goal.returns-then-i-ge256

@@ -1,6 +1,5 @@
 use native.Mathlib.Omega.{arith}
 use mathlib.Core.Path.{sym, ap, ◌∙◌}
-use borrow.Author.Tests.{not-true, not-false}
 use Rattle.codec.proofs.Fit.{length-dec_all}
 use Rattle.block.specs.Slot.{dec_slot}
 use Rattle.block.specs.Block.{dec_block}
@@ -8,7 +7,6 @@ use Rattle.block.specs.Tables.{row_at, slots_in}
 use Rattle.sound.specs.View.{slot_at-out, slot_at-pos, no_slot}
 use Rattle.tally.specs.Place.{slot-past, slot-some, index-slot}
 use lib.ListN.{get_or}
-use borrow.Author.Rules.{rules}
 use Rattle.rows.proofs.read.slot_at.Goals as goal
 
 pub returns-then-not-is_slot : goal.returns-then-not-is_slot

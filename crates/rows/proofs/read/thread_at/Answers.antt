@@ -3,7 +3,6 @@ use Rattle.block.specs.Thread.{dec_thread}
 use Rattle.block.specs.Tables.{row_at}
 use Rattle.sound.specs.View.{no_thread}
 use mathlib.Core.Path.{◌∙◌}
-use borrow.Author.Rules.{rules}
 use Rattle.rows.proofs.read.thread_at.Goals as goal
 
 pub returns : goal.returns

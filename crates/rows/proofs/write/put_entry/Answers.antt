@@ -5,7 +5,6 @@ use Rattle.codec.proofs.Laws.{part_over}
 use Rattle.block.specs.Table.{enc_entry}
 use Rattle.block.proofs.Sizes.{length-enc_entry}
 use Rattle.rows.specs.Rows.{entry_put}
-use borrow.Author.Rules.{rules}
 use Rattle.rows.proofs.write.put_entry.Goals as goal
 
 pub returns-then-i-ge256 : goal.returns-then-i-ge256

@@ -2,7 +2,6 @@ use Rattle.codec.proofs.Laws.{part_over}
 use Rattle.block.specs.Block.{enc_head}
 use Rattle.block.proofs.Sizes.{length-enc_head}
 use Rattle.rows.specs.Rows.{head_put}
-use borrow.Author.Rules.{rules}
 use Rattle.rows.proofs.write.put_head.Goals as goal
 
 pub returns : goal.returns

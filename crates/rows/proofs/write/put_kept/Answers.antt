@@ -5,7 +5,6 @@ use Rattle.codec.proofs.Laws.{part_over}
 use Rattle.block.specs.Table.{enc_id}
 use Rattle.block.proofs.Sizes.{length-enc_id}
 use Rattle.rows.specs.Rows.{kept_put}
-use borrow.Author.Rules.{rules}
 use Rattle.rows.proofs.write.put_kept.Goals as goal
 
 pub returns-then-i-ge32 : goal.returns-then-i-ge32

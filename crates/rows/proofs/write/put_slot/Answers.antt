@@ -1,12 +1,10 @@
 use Prim.Native.Nat.{◌+◌, ◌*◌}
 use native.Mathlib.Nat.{add-sub_cancel_left}
 use mathlib.Core.Path.{sym, ◌∙◌}
-use borrow.Author.Tests.{not-true, not-false}
 use Rattle.codec.proofs.Laws.{part_over}
 use Rattle.block.specs.Slot.{enc_slot}
 use Rattle.block.proofs.Sizes.{length-enc_slot}
 use Rattle.rows.specs.Rows.{slot_put}
-use borrow.Author.Rules.{rules}
 use Rattle.rows.proofs.write.put_slot.Goals as goal
 
 pub returns-then-not-is_slot : goal.returns-then-not-is_slot

@@ -5,7 +5,6 @@ use Rattle.codec.proofs.Laws.{part_over}
 use Rattle.block.specs.Thread.{enc_thread}
 use Rattle.block.proofs.Sizes.{length-enc_thread}
 use Rattle.rows.specs.Rows.{thread_put}
-use borrow.Author.Rules.{rules}
 use Rattle.rows.proofs.write.put_thread.Goals as goal
 
 pub returns-then-i-ge32 : goal.returns-then-i-ge32

@@ -1,13 +1,8 @@
-use mathlib.Core.Path.{◌≡◌, refl, sym, ◌∙◌}
+use mathlib.Core.Path.{◌≡◌}
 use Prim.Native.Nat.{◌-◌, ◌≤◌}
-use native.Mathlib.Omega.{arith}
-use lib.ListN.{length, take, drop}
-use borrow.Author.Rules.{rules}
-use borrow.Author.Tests.{eq-eqb, ne_eqb}
-use Rattle.laws.specs.Logic.{or_yes, or_no}
+use lib.ListN.{take, drop}
 use Rattle.sound.specs.View.{ids}
 use Rattle.kernel.specs.NextEvent.{contains}
-use Rattle.object.proofs.Laws.{list_at, list-end}
 use Rattle.satisfied_now.proofs.now.any_none.Given as goal
 
 abbrev pub invariant-loop-i : goal.invariant-loop-i

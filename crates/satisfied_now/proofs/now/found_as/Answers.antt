@@ -1,4 +1,3 @@
-use borrow.Author.Rules.{rules}
 use Rattle.satisfied_now.proofs.now.found_as.Goals as goal
 
 pub returns-in-SomeIndex : goal.returns-in-SomeIndex

@@ -1,12 +1,9 @@
-use mathlib.Core.List.{map}
 use mathlib.Core.Path.{◌≡◌, refl, ap, ◌∙◌}
-use Prim.Native.Nat.{◌-◌, ◌≤◌}
 use native.Mathlib.Omega.{arith}
 use borrow.Author.Rules.{rules}
 use Rattle.codec.specs.Layout.{dec_all}
-use Rattle.codec.specs.Bytes.{num}
 use Rattle.block.specs.Block.{dec_block}
-use Rattle.pass.specs.Asks.{wait_at_once, padded, open_object}
+use Rattle.pass.specs.Asks.{padded, open_object}
 use Rattle.satisfied_now.proofs.Open.{open_more}
 use Rattle.satisfied_now.proofs.now.open_list.Goals as goal
 

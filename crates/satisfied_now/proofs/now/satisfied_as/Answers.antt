@@ -1,4 +1,3 @@
-use borrow.Author.Rules.{rules}
 use Rattle.satisfied_now.proofs.now.satisfied_as.Goals as goal
 
 pub returns-in-NoThread : goal.returns-in-NoThread

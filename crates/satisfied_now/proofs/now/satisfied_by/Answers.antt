@@ -1,6 +1,5 @@
 use mathlib.Core.Path.{sym, ◌∙◌}
 use Rattle.block.specs.Block.{dec_block}
-use borrow.Author.Rules.{rules}
 use Rattle.satisfied_now.proofs.Open.{many, fires, looked}
 use Rattle.satisfied_now.proofs.now.satisfied_by.Goals as goal
 

@@ -1,8 +1,5 @@
-use mathlib.Core.Path.{◌≡◌, ap, sym, ◌∙◌}
+use mathlib.Core.Path.{ap, sym, ◌∙◌}
 use native.Mathlib.Omega.{arith}
-use lib.ListN.{length, take}
-use borrow.Author.Rules.{rules}
-use Rattle.sound.specs.View.{ids}
 use Rattle.satisfied_now.specs.Found.{found_in}
 use Rattle.satisfied_now.proofs.Wide.{wide-first}
 use Rattle.satisfied_now.proofs.now.satisfied_for.Goals as goal

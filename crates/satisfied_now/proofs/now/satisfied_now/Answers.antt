@@ -1,5 +1,4 @@
 use mathlib.Core.Path.{ap, ◌∙◌}
-use borrow.Author.Rules.{rules}
 use Rattle.codec.specs.Bytes.{num}
 use Rattle.codec.specs.Layout.{dec_all}
 use Rattle.types.specs.declared.thread.ThreadOption.{ThreadOption}

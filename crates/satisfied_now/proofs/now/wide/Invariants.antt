@@ -1,14 +1,10 @@
-use mathlib.Core.Path.{◌≡◌, refl, ap, sym, ◌∙◌}
-use mathlib.Core.List.{List, ◌++◌}
-use Prim.Native.Nat.{ℕ, ◌+◌, ◌-◌, ◌<◌, ◌≤◌}
-use native.Mathlib.Omega.{arith}
-use lib.ListN.{length, take, replicate}
-use lib.Seq.{take_all}
-use borrow.Author.Rules.{rules}
-use Rattle.units.specs.declared.ObjectId.{ObjectId}
+use mathlib.Core.Path.{◌≡◌}
+use mathlib.Core.List.{◌++◌}
+use Prim.Native.Nat.{◌-◌, ◌≤◌}
+use lib.ListN.{take, replicate}
 use Rattle.types.specs.Thread.{wait_list}
 use Rattle.pass.specs.Asks.{wait_at_once}
-use Rattle.satisfied_now.proofs.Wide.{no_id, wide-more}
+use Rattle.satisfied_now.proofs.Wide.{no_id}
 use Rattle.satisfied_now.proofs.now.wide.Given as goal
 
 abbrev pub invariant-loop-i : goal.invariant-loop-i

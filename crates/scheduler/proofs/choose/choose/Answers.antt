@@ -1,10 +1,8 @@
 use mathlib.Core.Path.{◌≡◌}
-use Prim.Native.Nat.{◌-◌}
 use native.Mathlib.Omega.{arith}
 use lib.ListN.{length}
 use Rattle.scheduler.specs.Turn.{turning}
 use Rattle.scheduler.specs.Place.{choose-is}
-use borrow.Author.Rules.{rules}
 use Rattle.scheduler.proofs.choose.choose.Goals as goal
 
 pub offset_bounds-l-c-3 : goal.offset_bounds-l-c-3

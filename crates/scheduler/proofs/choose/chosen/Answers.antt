@@ -1,7 +1,4 @@
-use Prim.Native.Nat.{◌-◌}
-use borrow.Author.Tests.{not-true, not-false}
 use Rattle.laws.specs.Logic.{◌and◌}
-use borrow.Author.Rules.{rules}
 use Rattle.scheduler.proofs.choose.chosen.Goals as goal
 
 pub returns-then-not-starve : goal.returns-then-not-starve

@@ -1,6 +1,5 @@
 use native.Mathlib.Omega.{arith}
 use Rattle.sound.specs.View.{thread_at-out}
-use borrow.Author.Rules.{rules}
 use Rattle.scheduler.proofs.choose.priority_at.Goals as goal
 
 pub returns-then-t-ge32 : goal.returns-then-t-ge32

@@ -1,5 +1,3 @@
-use Prim.Native.Nat.{◌-◌}
-use borrow.Author.Rules.{rules}
 use Rattle.scheduler.proofs.choose.stand_in_at.Goals as goal
 
 pub returns : goal.returns

@@ -1,4 +1,3 @@
-use borrow.Author.Rules.{rules}
 use Rattle.scheduler.proofs.run.begun.Goals as goal
 
 pub returns-then-t : goal.returns-then-t

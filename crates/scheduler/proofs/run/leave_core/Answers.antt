@@ -1,6 +1,4 @@
 use mathlib.Core.Path.{sym, ◌∙◌}
-use Prim.Native.Nat.{◌-◌}
-use borrow.Author.Rules.{rules}
 use Rattle.scheduler.proofs.run.leave_core.Goals as goal
 
 pub returns-then-same : goal.returns-then-same

@@ -1,5 +1,4 @@
 use mathlib.Core.Path.{sym, ◌∙◌}
-use borrow.Author.Rules.{rules}
 use Rattle.scheduler.proofs.run.leaves.Goals as goal
 
 pub returns-then-is_running : goal.returns-then-is_running

@@ -1,7 +1,6 @@
 use mathlib.Core.Path.{◌≡◌}
 use native.Mathlib.Omega.{arith}
 use Prim.Native.Nat.{◌-◌}
-use borrow.Author.Rules.{rules}
 use Rattle.scheduler.proofs.run.starves.Goals as goal
 
 pub returns-then-n-since : goal.returns-then-n-since

@@ -1,6 +1,4 @@
-use Prim.Native.Nat.{◌-◌}
 use borrow.Author.Tests.{lt-ltb, le-ltb}
-use borrow.Author.Rules.{rules}
 use Rattle.scheduler.proofs.run.starves_placed.Goals as goal
 
 pub returns-then-t-lt32 : goal.returns-then-t-lt32

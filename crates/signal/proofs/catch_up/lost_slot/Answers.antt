@@ -2,7 +2,6 @@ use mathlib.Core.Path.{sym}
 use borrow.Author.Tests.{not-true, not-false}
 use Rattle.laws.specs.Logic.{◌and◌}
 use Rattle.signal.proofs.Timers.{lost_same}
-use borrow.Author.Rules.{rules}
 use Rattle.signal.proofs.catch_up.lost_slot.Goals as goal
 
 pub returns-then-not-s : goal.returns-then-not-s

@@ -1,10 +1,8 @@
 use mathlib.Core.Path.{sym, ◌∙◌}
 use native.Mathlib.Omega.{arith}
 use lib.ListN.{length-map}
-use borrow.Author.Tests.{not-true, not-false}
 use Rattle.laws.specs.Tally.{tally}
 use Rattle.units.specs.declared.ObjectId.{ObjectId}
-use borrow.Author.Rules.{rules}
 use Rattle.signal.proofs.catch_up.mark_list.Goals as goal
 
 pub returns-then-not-waits_sync : goal.returns-then-not-waits_sync

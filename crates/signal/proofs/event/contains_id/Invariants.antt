@@ -1,16 +1,8 @@
-use mathlib.Core.Path.{◌≡◌, refl, sym, ◌∙◌}
-use mathlib.Core.List.{List}
+use mathlib.Core.Path.{◌≡◌}
 use Prim.Native.Nat.{◌-◌, ◌≤◌}
-use native.Mathlib.Omega.{arith}
-use lib.ListN.{length, drop}
-use lib.Dec.{eqb}
-use borrow.Author.Tests.{eq-eqb, ne_eqb}
-use Rattle.laws.specs.Logic.{or_yes, or_no}
-use Rattle.units.specs.declared.ObjectId.{ObjectId}
+use lib.ListN.{drop}
 use Rattle.sound.specs.View.{ids}
 use Rattle.kernel.specs.NextEvent.{contains}
-use Rattle.signal.proofs.Steps.{any_step, any_end}
-use borrow.Author.Rules.{rules}
 use Rattle.types.specs.Thread.{wait_list}
 use Rattle.signal.proofs.event.contains_id.Given as goal
 

@@ -1,7 +1,5 @@
 use mathlib.Core.Path.{sym, ◌∙◌}
-use borrow.Author.Tests.{not-true, not-false}
 use Rattle.laws.specs.Logic.{◌and◌, or-true, or-end}
-use borrow.Author.Rules.{rules}
 use Rattle.signal.proofs.event.signaled_event.Goals as goal
 
 pub returns-then-not-waited : goal.returns-then-not-waited

@@ -1,7 +1,5 @@
 use mathlib.Core.Path.{sym, ◌∙◌}
-use borrow.Author.Tests.{not-true, not-false}
 use Rattle.laws.specs.Logic.{and_no, and_yes}
-use borrow.Author.Rules.{rules}
 use Rattle.signal.proofs.event.waits_on.Goals as goal
 
 pub returns-then-not-waits_sync : goal.returns-then-not-waits_sync

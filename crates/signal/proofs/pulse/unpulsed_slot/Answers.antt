@@ -1,7 +1,6 @@
 use mathlib.Core.Path.{sym}
 use borrow.Author.Tests.{not-true, not-false}
 use Rattle.signal.proofs.Pulses.{unpulsed_same}
-use borrow.Author.Rules.{rules}
 use Rattle.signal.proofs.pulse.unpulsed_slot.Goals as goal
 
 pub returns-then-not-s : goal.returns-then-not-s

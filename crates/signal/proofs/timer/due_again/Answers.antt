@@ -3,7 +3,6 @@ use native.Mathlib.Omega.{arith}
 use borrow.Author.Tests.{lt-ltb, le-ltb}
 use Rattle.thread.specs.Marks.{least-is}
 use Rattle.signal.proofs.Due.{least-over, left-fits, due-left}
-use borrow.Author.Rules.{rules}
 use Rattle.signal.proofs.timer.due_again.Goals as goal
 
 pub returns-then-p-eq0 : goal.returns-then-p-eq0

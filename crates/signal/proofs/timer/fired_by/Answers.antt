@@ -1,5 +1,4 @@
 use borrow.Author.Tests.{le-leb, lt-leb}
-use borrow.Author.Rules.{rules}
 use Rattle.signal.proofs.timer.fired_by.Goals as goal
 
 pub returns-then-n-a : goal.returns-then-n-a

@@ -1,5 +1,4 @@
 use mathlib.Core.Path.{sym, ◌∙◌}
-use borrow.Author.Rules.{rules}
 use Rattle.laws.specs.Logic.{or-true, or-end}
 use Rattle.signal.proofs.timer.fired_due.Goals as goal
 

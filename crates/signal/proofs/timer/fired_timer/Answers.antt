@@ -1,4 +1,3 @@
-use borrow.Author.Rules.{rules}
 use Rattle.signal.proofs.timer.fired_timer.Goals as goal
 
 pub returns : goal.returns

@@ -2,7 +2,6 @@ use mathlib.Core.Path.{sym, ◌∙◌}
 use native.Mathlib.Omega.{arith}
 use borrow.Author.Tests.{lt-ltb, le-ltb, le-leb, lt-leb}
 use Rattle.laws.specs.Logic.{and_no, and_yes}
-use borrow.Author.Rules.{rules}
 use Rattle.signal.proofs.timer.over_by.Goals as goal
 
 pub returns-then-n-a : goal.returns-then-n-a

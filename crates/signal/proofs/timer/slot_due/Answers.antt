@@ -1,4 +1,3 @@
-use borrow.Author.Rules.{rules}
 use Rattle.signal.proofs.timer.slot_due.Goals as goal
 
 pub returns : goal.returns

@@ -1,9 +1,8 @@
 use mathlib.Core.Path.{◌≡◌, sym, ap, subst, ◌∙◌}
-use mathlib.Core.Logic.{⊎_elim}
 use mathlib.Core.List.{List}
-use Prim.Native.Nat.{ℕ, ◌-◌, ◌≤◌, ◌<◌}
+use Prim.Native.Nat.{ℕ, ◌<◌}
 use native.Mathlib.Omega.{arith}
-use lib.ListN.{length, length-map}
+use lib.ListN.{length-map}
 use Rattle.types.specs.declared.object.Slot.{Slot}
 use Rattle.types.specs.declared.object.Waiter.{Waiter}
 use Rattle.types.specs.Object.{head_of}
@@ -42,16 +41,16 @@ loop-i-preserved c = let l = c.loop-i in
       search rules,
       elim c.if-first-ne0.branch [
         | then-first-ne0 w ↦
-          let u = links_of w.unlink-u.new.threads w.unlink-u.new.addresses w.unlink-u.new.nexts w.unlink-u.result in
-          let n = drop_more s t l.i l.block W l.free h g c.requires.encoded u (rw first at w.unlink-u.ensures.result_after) w.headed.result (w.headed.ensures ∙ ap (λ (z : Slot). with_object z (with_head z.object u.head)) old) in (
-            rw (w.block-is, w.put_slot.ensures) n.rows.long,
-            (rw w.threads-is w.unlink-u.ensures.threads_len_2, (rw w.addresses-is w.unlink-u.ensures.addresses_len_2, (rw w.nexts-is w.unlink-u.ensures.nexts_len_2, rw (w.block-is, w.threads-is, w.addresses-is, w.nexts-is, w.free-is, w.put_slot.ensures) n))),
-          )
+            let u = links_of w.unlink-u.new.threads w.unlink-u.new.addresses w.unlink-u.new.nexts w.unlink-u.result in
+            let n = drop_more s t l.i l.block W l.free h g c.requires.encoded u (rw first at w.unlink-u.ensures.result_after) w.headed.result (w.headed.ensures ∙ ap (λ (z : Slot). with_object z (with_head z.object u.head)) old) in (
+              rw (w.block-is, w.put_slot.ensures) n.rows.long,
+              (rw w.threads-is w.unlink-u.ensures.threads_len_2, (rw w.addresses-is w.unlink-u.ensures.addresses_len_2, (rw w.nexts-is w.unlink-u.ensures.nexts_len_2, rw (w.block-is, w.threads-is, w.addresses-is, w.nexts-is, w.free-is, w.put_slot.ensures) n))),
+            )
         | else-first-ne0 w ↦
-          let n = drop-next s t l.i l.block W l.free h g c.requires.encoded (sym first ∙ w.if-first-ne0.false) in (
-            rw w.block-is n.rows.long,
-            (rw w.threads-is v.1.0, (rw w.addresses-is v.1.1.0, (rw w.nexts-is v.1.1.1.0, rw (w.block-is, w.threads-is, w.addresses-is, w.nexts-is, w.free-is) n))),
-          )
+            let n = drop-next s t l.i l.block W l.free h g c.requires.encoded (sym first ∙ w.if-first-ne0.false) in (
+              rw w.block-is n.rows.long,
+              (rw w.threads-is v.1.0, (rw w.addresses-is v.1.1.0, (rw w.nexts-is v.1.1.1.0, rw (w.block-is, w.threads-is, w.addresses-is, w.nexts-is, w.free-is) n))),
+            )
       ],
     )
 

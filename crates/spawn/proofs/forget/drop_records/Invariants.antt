@@ -1,21 +1,8 @@
-use mathlib.Core.Path.{◌≡◌, sym, ap, subst, ◌∙◌}
-use mathlib.Core.Logic.{⊎_elim}
-use mathlib.Core.List.{List}
-use Prim.Native.Nat.{ℕ, ◌-◌, ◌≤◌, ◌<◌}
-use native.Mathlib.Omega.{arith}
-use lib.ListN.{length, length-map}
-use Rattle.types.specs.declared.object.Slot.{Slot}
-use Rattle.types.specs.declared.object.Waiter.{Waiter}
-use Rattle.types.specs.Object.{head_of}
-use Rattle.block.specs.Block.{dec_block}
-use Rattle.object.specs.Slots.{with_object}
-use Rattle.object.specs.Waiters.{with_head}
-use Rattle.object.specs.Cells.{joined, links_of, joined-columns}
-use Rattle.rows.specs.Slots.{slot-before}
-use Rattle.release.specs.Encoded.{encoded-head}
-use Rattle.release.proofs.Released.{waiters_are}
-use Rattle.spawn.proofs.Forgets.{DropTo, drop-start, drop-next, drop_more, dropped}
-use borrow.Author.Rules.{rules}
+use mathlib.Core.Path.{◌≡◌}
+use Prim.Native.Nat.{◌-◌, ◌≤◌}
+use lib.ListN.{length}
+use Rattle.object.specs.Cells.{joined}
+use Rattle.spawn.proofs.Forgets.{DropTo}
 use Rattle.spawn.proofs.forget.drop_records.Given as goal
 
 abbrev pub invariant-loop-i : goal.invariant-loop-i

@@ -1,10 +1,8 @@
 use mathlib.Core.Path.{refl, ap, ◌∙◌}
-use borrow.Author.Tests.{not-true, not-false}
 use Rattle.types.specs.declared.kernel.Kernel.{Kernel}
 use Rattle.object.specs.Waiters.{drop_thread}
 use Rattle.thread.specs.Threads.{with_threads, forget_thread}
 use Rattle.release.specs.Encoded.{sound-encoded}
-use borrow.Author.Rules.{rules}
 use Rattle.spawn.proofs.forget.forget_if.Goals as goal
 
 pub returns-then-not-reused : goal.returns-then-not-reused

@@ -2,7 +2,6 @@ use mathlib.Core.Path.{sym, ap, subst, ◌∙◌}
 use Rattle.block.specs.Block.{dec_block}
 use Rattle.release.specs.Encoded.{Encoded}
 use Rattle.spawn.proofs.Forgets.{none_kept, unkept_in, kept-gone}
-use borrow.Author.Rules.{rules}
 use Rattle.spawn.proofs.forget.let_go.Goals as goal
 
 pub returns-then-o-eq0 : goal.returns-then-o-eq0

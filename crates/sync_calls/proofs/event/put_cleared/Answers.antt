@@ -2,7 +2,6 @@ use mathlib.Core.Path.{refl}
 use Rattle.rows.specs.Holds.{holds}
 use Rattle.pass.specs.Signal as sig
 use Rattle.objects.proofs.Changed.{put-content}
-use borrow.Author.Rules.{rules}
 use Rattle.sync_calls.proofs.event.put_cleared.Goals as goal
 
 pub returns : goal.returns

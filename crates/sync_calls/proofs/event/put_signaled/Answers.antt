@@ -1,6 +1,5 @@
 use Rattle.rows.specs.Holds.{holds, put-slot}
 use Rattle.pass.specs.Signal as sig
-use borrow.Author.Rules.{rules}
 use Rattle.sync_calls.proofs.event.put_signaled.Goals as goal
 
 pub returns : goal.returns

@@ -1,8 +1,7 @@
 use mathlib.Core.Path.{◌≡◌, refl, ap, sym, ◌∙◌}
 use mathlib.Core.List.{List}
-use Prim.Native.Nat.{◌-◌, ◌≤◌}
 use native.Mathlib.Omega.{arith}
-use lib.ListN.{length, drop}
+use lib.ListN.{length}
 use Rattle.laws.specs.Logic.{◌and◌, or_yes, or_no}
 use Rattle.codec.proofs.Fit.{length-dec_all}
 use Rattle.types.specs.declared.thread.Thread.{Thread}

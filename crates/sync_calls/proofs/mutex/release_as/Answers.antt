@@ -1,6 +1,5 @@
 use Rattle.rows.specs.Holds.{holds}
 use Rattle.objects.proofs.Changed.{put-content}
-use borrow.Author.Rules.{rules}
 use Rattle.sync_calls.proofs.mutex.release_as.Goals as goal
 
 pub returns-in-Free : goal.returns-in-Free

@@ -1,5 +1,4 @@
 use Rattle.sync_calls.proofs.Locks.{last_lock, more_locks}
-use borrow.Author.Rules.{rules}
 use Rattle.sync_calls.proofs.mutex.unlocked.Goals as goal
 
 pub returns-then-m-le1 : goal.returns-then-m-le1

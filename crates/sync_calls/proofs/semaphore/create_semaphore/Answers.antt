@@ -1,5 +1,4 @@
 use Rattle.svc.specs.Sync.{create_semaphore}
-use borrow.Author.Rules.{rules}
 use Rattle.sync_calls.proofs.semaphore.create_semaphore.Goals as goal
 
 pub returns : goal.returns

@@ -5,7 +5,6 @@ use native.Mathlib.Omega.{arith}
 use Rattle.outcome.specs.Outcome.{outcome-0, outcome-found, left-0, left-found}
 use Rattle.objects.proofs.Changed.{put-content}
 use Rattle.sync_calls.proofs.Found.{semaphore_over, semaphore_fits, same_block}
-use borrow.Author.Rules.{rules}
 use Rattle.sync_calls.proofs.semaphore.release_as.Goals as goal
 
 pub returns-then-sum_over : goal.returns-then-sum_over

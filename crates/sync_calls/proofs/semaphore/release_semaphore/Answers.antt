@@ -30,5 +30,8 @@ returns c = let b = c.args.block.now in
     let k = opened-state b c.requires.block_value c.args.r.r1 _ _ p c.if-a-ne0.false in
     let o = p.object c.if-a-ne0.false in
     let y : c.slot_at-x.result.object ≡ object_at (resolved (dec_block b) c.args.r.r1).store (resolved (dec_block b) c.args.r.r1).object.0 = ap (λ (x : Slot). x.object) c.slot_at-x.ensures ∙ (λ i. object_at (k i).objects (o i)) in
-    let u : ◌≡◌ {A = Served} (release_semaphore_as c.slot_at-x.result.object (dec_block c.resolve-a.new.block) c.resolve-a.result.object.0 c.args.r.r2) (release_semaphore (dec_block b) c.args.r) = λ i. release_semaphore_as (y i) (k i) (o i) c.args.r.r2 in record { value = c.release_as.ensures.value ∙ ap outcome u; block_after = c.release_as.ensures.block_after ∙ ap (λ (w : Served). left w c.resolve-a.new.block) u
-          ∙ left-same (object_at (resolved (dec_block b) c.args.r.r1).store (resolved (dec_block b) c.args.r.r1).object.0) (with_objects (dec_block b) (resolved (dec_block b) c.args.r.r1).store) (resolved (dec_block b) c.args.r.r1).object.0 c.args.r.r2 c.resolve-a.new.block b (sym p.found ∙ c.if-a-ne0.false) (λ s e. unmade b c.requires.block_value c.args.r.r1 _ _ p c.if-a-ne0.false s e) }
+    let u : ◌≡◌ {A = Served} (release_semaphore_as c.slot_at-x.result.object (dec_block c.resolve-a.new.block) c.resolve-a.result.object.0 c.args.r.r2) (release_semaphore (dec_block b) c.args.r) = λ i. release_semaphore_as (y i) (k i) (o i) c.args.r.r2 in record {
+      value = c.release_as.ensures.value ∙ ap outcome u;
+      block_after = c.release_as.ensures.block_after ∙ ap (λ (w : Served). left w c.resolve-a.new.block) u
+          ∙ left-same (object_at (resolved (dec_block b) c.args.r.r1).store (resolved (dec_block b) c.args.r.r1).object.0) (with_objects (dec_block b) (resolved (dec_block b) c.args.r.r1).store) (resolved (dec_block b) c.args.r.r1).object.0 c.args.r.r2 c.resolve-a.new.block b (sym p.found ∙ c.if-a-ne0.false) (λ s e. unmade b c.requires.block_value c.args.r.r1 _ _ p c.if-a-ne0.false s e);
+    }

@@ -1,4 +1,3 @@
-use borrow.Author.Rules.{rules}
 use Rattle.sync_calls.proofs.semaphore.released_semaphore.Goals as goal
 
 pub returns : goal.returns

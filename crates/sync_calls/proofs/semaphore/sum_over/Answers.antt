@@ -1,6 +1,5 @@
 use borrow.Author.Tests.{lt-ltb, le-ltb}
 use Rattle.laws.specs.Logic.{◌or◌}
-use borrow.Author.Rules.{rules}
 use Rattle.sync_calls.proofs.semaphore.sum_over.Goals as goal
 
 pub returns-then-sum-lt2147483648 : goal.returns-then-sum-lt2147483648

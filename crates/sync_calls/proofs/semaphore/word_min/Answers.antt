@@ -1,5 +1,4 @@
 use borrow.Author.Tests.{lt-ltb, le-ltb}
-use borrow.Author.Rules.{rules}
 use Rattle.sync_calls.proofs.semaphore.word_min.Goals as goal
 
 pub returns-then-x-y : goal.returns-then-x-y

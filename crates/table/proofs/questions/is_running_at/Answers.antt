@@ -7,7 +7,6 @@ use Rattle.block.specs.Block.{dec_block}
 use Rattle.block.specs.Thread.{dec_thread}
 use Rattle.block.specs.Tables.{threads_in}
 use Rattle.pass.specs.Pick.{is_running}
-use borrow.Author.Rules.{rules}
 use Rattle.table.proofs.questions.is_running_at.Goals as goal
 
 pub returns-then-c-ge32 : goal.returns-then-c-ge32

@@ -1,6 +1,5 @@
 use borrow.Author.Tests.{eq-eqb, ne_eqb}
 use Rattle.svc.specs.Dispatch as def
-use borrow.Author.Rules.{rules}
 use Rattle.table.proofs.questions.outside.Goals as goal
 
 pub returns-then-n-eq0 : goal.returns-then-n-eq0

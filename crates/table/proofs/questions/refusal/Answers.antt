@@ -1,7 +1,5 @@
-use borrow.Author.Tests.{not-true, not-false}
 use mathlib.Core.Path.{sym, ◌∙◌}
 use Rattle.svc.specs.Dispatch as def
-use borrow.Author.Rules.{rules}
 use Rattle.table.proofs.questions.refusal.Goals as goal
 
 pub returns-then-not-known : goal.returns-then-not-known

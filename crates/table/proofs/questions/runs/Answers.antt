@@ -1,5 +1,4 @@
 use Rattle.svc.specs.Dispatch as def
-use borrow.Author.Rules.{rules}
 use Rattle.table.proofs.questions.runs.Goals as goal
 
 pub returns : goal.returns

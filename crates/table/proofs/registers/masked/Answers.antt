@@ -1,5 +1,4 @@
 use mathlib.Core.Path.{sym, ◌∙◌}
-use borrow.Author.Rules.{rules}
 use Rattle.table.proofs.registers.masked.Goals as goal
 
 pub returns-then-bit : goal.returns-then-bit

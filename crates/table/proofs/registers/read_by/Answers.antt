@@ -1,4 +1,3 @@
-use borrow.Author.Rules.{rules}
 use Rattle.table.proofs.registers.read_by.Goals as goal
 
 pub returns : goal.returns

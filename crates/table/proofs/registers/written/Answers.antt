@@ -1,4 +1,3 @@
-use borrow.Author.Rules.{rules}
 use Rattle.table.proofs.registers.written.Goals as goal
 
 pub returns : goal.returns

@@ -1,9 +1,8 @@
 use mathlib.Core.Path.{◌≡◌, refl}
-use Prim.Native.Nat.{◌-◌, ◌≤◌, ◌<◌}
+use Prim.Native.Nat.{◌≤◌, ◌<◌}
 use native.Mathlib.Omega.{arith}
-use lib.ListN.{length, take}
+use lib.ListN.{length}
 use Rattle.types.specs.declared.object.Waiter.{Waiter}
-use Rattle.sound.specs.View.{waiter_addresses}
 use Rattle.tally.specs.Columns.{map_more, map-done}
 use borrow.Author.Rules.{rules}
 use Rattle.tally.proofs.columns.addresses_of.Goals as goal

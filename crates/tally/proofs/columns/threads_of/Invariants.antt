@@ -1,11 +1,7 @@
-use mathlib.Core.Path.{◌≡◌, refl}
-use Prim.Native.Nat.{◌-◌, ◌≤◌, ◌<◌}
-use native.Mathlib.Omega.{arith}
+use mathlib.Core.Path.{◌≡◌}
+use Prim.Native.Nat.{◌-◌, ◌≤◌}
 use lib.ListN.{length, take}
-use Rattle.types.specs.declared.object.Waiter.{Waiter}
 use Rattle.sound.specs.View.{waiter_threads}
-use Rattle.tally.specs.Columns.{map_more, map-done}
-use borrow.Author.Rules.{rules}
 use Rattle.tally.proofs.columns.threads_of.Given as goal
 
 abbrev pub invariant-loop-i : goal.invariant-loop-i

@@ -1,7 +1,6 @@
 use borrow.Author.Tests.{lt-ltb, le-ltb, eq-eqb, ne_eqb}
 use native.Mathlib.Omega.{arith}
 use Rattle.tally.specs.Place.{slot_index}
-use borrow.Author.Rules.{rules}
 use Rattle.tally.proofs.place.slot_index.Goals as goal
 
 pub returns-then-n-eq0 : goal.returns-then-n-eq0

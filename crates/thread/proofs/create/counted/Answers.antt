@@ -1,6 +1,5 @@
 use borrow.Author.Tests.{le-leb, lt-leb}
 use Rattle.laws.specs.Logic.{◌or◌}
-use borrow.Author.Rules.{rules}
 use Rattle.thread.proofs.create.counted.Goals as goal
 
 pub returns-then-reused : goal.returns-then-reused

@@ -1,5 +1,4 @@
 use borrow.Author.Tests.{lt-ltb, le-ltb}
-use borrow.Author.Rules.{rules}
 use Rattle.thread.proofs.create.given_out.Goals as goal
 
 pub returns-then-tls-n : goal.returns-then-tls-n

@@ -1,4 +1,3 @@
-use borrow.Author.Rules.{rules}
 use Rattle.thread.proofs.end.disowned_mutex.Goals as goal
 
 pub returns-then-is_current : goal.returns-then-is_current

@@ -1,4 +1,3 @@
-use borrow.Author.Rules.{rules}
 use Rattle.thread.proofs.end.ended.Goals as goal
 
 pub returns : goal.returns

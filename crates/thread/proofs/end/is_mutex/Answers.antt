@@ -1,5 +1,4 @@
 use mathlib.Core.Path.{◌∙◌}
-use borrow.Author.Rules.{rules}
 use Rattle.types.specs.Tests.{mutex_number}
 use Rattle.thread.proofs.end.is_mutex.Goals as goal
 

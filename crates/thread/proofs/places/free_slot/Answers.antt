@@ -1,9 +1,7 @@
-use mathlib.Core.Path.{◌≡◌, sym, ◌∙◌}
-use Prim.Native.Nat.{◌-◌, ◌≤◌}
+use mathlib.Core.Path.{sym, ◌∙◌}
 use native.Mathlib.Numerals.{unary_clauses}
 use Rattle.laws.specs.Logic.{pick_yes, pick_no}
 use borrow.Author.Tests.{eq-eqb, ne_eqb}
-use Rattle.thread.specs.Marks.{free_marked}
 use Rattle.thread.proofs.Steps.{free_step, free-end}
 use borrow.Author.Rules.{rules}
 use Rattle.thread.proofs.places.free_slot.Goals as goal

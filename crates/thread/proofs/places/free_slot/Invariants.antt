@@ -1,11 +1,6 @@
-use mathlib.Core.Path.{◌≡◌, sym, ◌∙◌}
+use mathlib.Core.Path.{◌≡◌}
 use Prim.Native.Nat.{◌-◌, ◌≤◌}
-use native.Mathlib.Numerals.{unary_clauses}
-use Rattle.laws.specs.Logic.{pick_yes, pick_no}
-use borrow.Author.Tests.{eq-eqb, ne_eqb}
 use Rattle.thread.specs.Marks.{free_marked}
-use Rattle.thread.proofs.Steps.{free_step, free-end}
-use borrow.Author.Rules.{rules}
 use Rattle.thread.proofs.places.free_slot.Given as goal
 
 abbrev pub invariant-loop-i : goal.invariant-loop-i

@@ -5,7 +5,7 @@ use Rattle.laws.specs.Logic.{pick_yes, pick_no}
 use Rattle.codec.specs.Layout.{dec_as}
 use Rattle.block.specs.Block.{dec_block}
 use Rattle.sound.specs.Objects.{kept_at}
-use Rattle.sound.specs.Question.{t_block}
+use Rattle.sound.proofs.Question.{t_block}
 use Rattle.threads.proofs.Forgotten.{made-free}
 use borrow.Author.Rules.{rules}
 use Rattle.threads.proofs.create.no_slot.Statement.{statement}

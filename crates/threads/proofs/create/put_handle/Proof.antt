@@ -2,7 +2,7 @@ use mathlib.Core.Path.{ap, ◌∙◌}
 use native.Mathlib.Omega.{arith}
 use Rattle.block.specs.declared.Head.{Head}
 use Rattle.block.specs.Block.{dec_block}
-use Rattle.sound.specs.Question.{t_block}
+use Rattle.sound.proofs.Question.{t_block}
 use Rattle.rows.specs.Head.{sound-head}
 use Rattle.rows.specs.Holds.{holds}
 use Rattle.threads.proofs.Handle.{handled}

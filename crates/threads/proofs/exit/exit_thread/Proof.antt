@@ -1,7 +1,7 @@
 use Rattle.types.specs.declared.thread.ThreadOption.{ThreadOption}
 use Rattle.block.specs.Block.{dec_block}
 use Rattle.sound.specs.Threads.{CurrentOk}
-use Rattle.sound.specs.Question.{t_block}
+use Rattle.sound.proofs.Question.{t_block}
 use Rattle.soundness.specs.Creates.{current-more}
 use mathlib.Core.Path.{sym, ap, subst, ◌∙◌}
 use Rattle.svc.specs.Threads.{exit_as, exit_thread}

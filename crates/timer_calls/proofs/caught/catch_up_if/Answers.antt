@@ -1,7 +1,5 @@
 use mathlib.Core.Path.{sym, ◌∙◌}
-use borrow.Author.Tests.{not-true}
 use Rattle.due.proofs.Caught.{none-due}
-use borrow.Author.Rules.{rules}
 use Rattle.timer_calls.proofs.caught.catch_up_if.Goals as goal
 
 pub returns-then-not-fires : goal.returns-then-not-fires

@@ -1,4 +1,3 @@
-use borrow.Author.Rules.{rules}
 use Rattle.timer_calls.proofs.caught.found_before.Goals as goal
 
 pub returns : goal.returns

@@ -6,7 +6,6 @@ use Rattle.svc.specs.Timers.{caught_up}
 use Rattle.lent.specs.Operations.{out_of_handles?}
 use Rattle.outcome.specs.Findings.{found_of}
 use Rattle.timer_calls.proofs.Opened.{caught-fits, opens_found, opens_caught, state-caught}
-use borrow.Author.Rules.{rules}
 use Rattle.timer_calls.proofs.caught.open_caught.Goals as goal
 
 pub returns-then-found-ne0 : goal.returns-then-found-ne0

@@ -1,9 +1,7 @@
 use mathlib.Core.Path.{sym, ap, ◌∙◌}
-use borrow.Author.Tests.{not-true}
 use Rattle.types.specs.declared.kernel.Kernel.{Kernel}
 use Rattle.due.proofs.Caught.{none-due}
 use Rattle.timer_calls.proofs.Found.{down}
-use borrow.Author.Rules.{rules}
 use Rattle.timer_calls.proofs.caught.over_if.Goals as goal
 
 pub returns-then-not-fires : goal.returns-then-not-fires

@@ -1,4 +1,3 @@
-use borrow.Author.Rules.{rules}
 use Rattle.timer_calls.proofs.set.cancelled.Goals as goal
 
 pub returns-in-Free : goal.returns-in-Free

@@ -1,5 +1,4 @@
 use mathlib.Core.Path.{sym, ◌∙◌}
-use borrow.Author.Rules.{rules}
 use Rattle.timer_calls.proofs.set.delay.Goals as goal
 
 pub returns-then-negative : goal.returns-then-negative

@@ -1,4 +1,3 @@
-use borrow.Author.Rules.{rules}
 use Rattle.timer_calls.proofs.set.set_to.Goals as goal
 
 pub returns : goal.returns

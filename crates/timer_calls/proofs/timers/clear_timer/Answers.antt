@@ -2,7 +2,6 @@ use Rattle.block.specs.Block.{dec_block}
 use Rattle.svc.specs.Timers.{clear_timer}
 use Rattle.objects.proofs.Calls.{refused-call, accepted-call}
 use Rattle.timer_calls.proofs.Named.{clear_timer-finding, clear-is}
-use borrow.Author.Rules.{rules}
 use Rattle.timer_calls.proofs.timers.clear_timer.Goals as goal
 
 pub returns-then-a-ne0 : goal.returns-then-a-ne0

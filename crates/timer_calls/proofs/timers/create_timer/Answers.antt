@@ -1,6 +1,5 @@
 use Rattle.svc.specs.Timers.{create_timer}
 use mathlib.Core.Path.{refl}
-use borrow.Author.Rules.{rules}
 use Rattle.timer_calls.proofs.timers.create_timer.Goals as goal
 
 pub returns : goal.returns

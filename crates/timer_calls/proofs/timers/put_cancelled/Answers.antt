@@ -1,6 +1,5 @@
 use Rattle.svc.specs.Timers.{cancelled}
 use Rattle.timer_calls.proofs.Named.{put-changed}
-use borrow.Author.Rules.{rules}
 use Rattle.timer_calls.proofs.timers.put_cancelled.Goals as goal
 
 pub returns : goal.returns

@@ -1,6 +1,5 @@
 use Rattle.pass.specs.Timers.{lost_object}
 use Rattle.timer_calls.proofs.Named.{put-changed}
-use borrow.Author.Rules.{rules}
 use Rattle.timer_calls.proofs.timers.put_cleared.Goals as goal
 
 pub returns : goal.returns

@@ -1,7 +1,5 @@
 use mathlib.Core.Path.{◌∙◌}
-use borrow.Author.Tests.{not-true, not-false}
 use Rattle.timer_calls.proofs.Named.{set_other, set-one}
-use borrow.Author.Rules.{rules}
 use Rattle.timer_calls.proofs.timers.set_opened.Goals as goal
 
 pub returns-then-not-is_timer : goal.returns-then-not-is_timer

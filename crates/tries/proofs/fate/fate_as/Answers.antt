@@ -1,5 +1,3 @@
-use Prim.Native.Nat.{◌-◌}
-use borrow.Author.Rules.{rules}
 use Rattle.tries.proofs.fate.fate_as.Goals as goal
 
 pub returns-in-WaitSync : goal.returns-in-WaitSync

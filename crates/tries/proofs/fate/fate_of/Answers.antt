@@ -1,4 +1,3 @@
-use borrow.Author.Rules.{rules}
 use Rattle.tries.proofs.fate.fate_of.Goals as goal
 
 pub returns : goal.returns

@@ -1,6 +1,4 @@
-use Prim.Native.Nat.{◌-◌}
 use Rattle.tries.specs.Tries.{sync_is}
-use borrow.Author.Rules.{rules}
 use Rattle.tries.proofs.fate.fate_sync.Goals as goal
 
 pub returns : goal.returns

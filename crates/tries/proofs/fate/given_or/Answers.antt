@@ -1,5 +1,3 @@
-use Prim.Native.Nat.{◌-◌}
-use borrow.Author.Rules.{rules}
 use Rattle.tries.proofs.fate.given_or.Goals as goal
 
 pub returns-in-SomeIndex : goal.returns-in-SomeIndex

@@ -1,5 +1,3 @@
-use Prim.Native.Nat.{◌-◌}
-use borrow.Author.Rules.{rules}
 use Rattle.tries.proofs.fate.or_fate.Goals as goal
 
 pub returns-in-Given : goal.returns-in-Given

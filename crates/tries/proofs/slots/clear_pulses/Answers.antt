@@ -1,11 +1,9 @@
 use mathlib.Core.Path.{◌≡◌, ap, subst, ◌∙◌}
-use mathlib.Core.Logic.{⊎_elim}
-use Prim.Native.Nat.{ℕ, ◌-◌, ◌≤◌, ◌<◌}
+use Prim.Native.Nat.{ℕ, ◌<◌}
 use native.Mathlib.Omega.{arith}
-use lib.ListN.{length}
 use Rattle.types.specs.declared.object.Slot.{Slot}
 use Rattle.rows.specs.Holds.{holds}
-use Rattle.rows.specs.Slots.{SlotsTo, slots-none, slot-before, slots_next, slots-more}
+use Rattle.rows.specs.Slots.{slots-none, slot-before, slots_next, slots-more}
 use Rattle.pass.specs.Signal.{unpulsed_slot}
 use Rattle.signal.proofs.Pulses.{unpulsed_same}
 use Rattle.tries.proofs.Fired.{cleared-all}
@@ -26,11 +24,11 @@ loop-i-preserved c = let l = c.loop-i in
       search rules,
       elim c.if-old.branch [
         | then-old w ↦
-          let n = slots-more s f l.i l.block h g w.unpulsed_slot.result (w.unpulsed_slot.ensures ∙ ap (f 0) old) in
-          rw (w.block-is, w.put_slot.ensures) (n.rows.long, n)
+            let n = slots-more s f l.i l.block h g w.unpulsed_slot.result (w.unpulsed_slot.ensures ∙ ap (f 0) old) in
+            rw (w.block-is, w.put_slot.ensures) (n.rows.long, n)
         | else-old w ↦
-          let n = slots_next s f l.i l.block h g (subst (λ (x : Slot). f 0 x ≡ x) old (unpulsed_same c.slot_at-old.result w.if-old.false)) in
-          rw w.block-is (n.rows.long, n)
+            let n = slots_next s f l.i l.block h g (subst (λ (x : Slot). f 0 x ≡ x) old (unpulsed_same c.slot_at-old.result w.if-old.false)) in
+            rw w.block-is (n.rows.long, n)
       ],
     )
 

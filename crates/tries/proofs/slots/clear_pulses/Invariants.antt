@@ -1,15 +1,8 @@
-use mathlib.Core.Path.{◌≡◌, ap, subst, ◌∙◌}
-use mathlib.Core.Logic.{⊎_elim}
-use Prim.Native.Nat.{ℕ, ◌-◌, ◌≤◌, ◌<◌}
-use native.Mathlib.Omega.{arith}
+use mathlib.Core.Path.{◌≡◌}
+use Prim.Native.Nat.{◌-◌, ◌≤◌}
 use lib.ListN.{length}
-use Rattle.types.specs.declared.object.Slot.{Slot}
-use Rattle.rows.specs.Holds.{holds}
-use Rattle.rows.specs.Slots.{SlotsTo, slots-none, slot-before, slots_next, slots-more}
+use Rattle.rows.specs.Slots.{SlotsTo}
 use Rattle.pass.specs.Signal.{unpulsed_slot}
-use Rattle.signal.proofs.Pulses.{unpulsed_same}
-use Rattle.tries.proofs.Fired.{cleared-all}
-use borrow.Author.Rules.{rules}
 use Rattle.tries.proofs.slots.clear_pulses.Given as goal
 
 abbrev pub invariant-loop-i : goal.invariant-loop-i

@@ -1,15 +1,13 @@
 use mathlib.Core.Path.{◌≡◌, refl, sym, ap, subst, ◌∙◌}
-use mathlib.Core.Logic.{⊎_elim}
 use mathlib.Core.Bool.{true≢false}
-use Prim.Native.Nat.{ℕ, ◌-◌, ◌≤◌, ◌<◌}
+use Prim.Native.Nat.{ℕ, ◌<◌}
 use native.Mathlib.Omega.{arith}
-use lib.ListN.{length, drop}
 use Rattle.types.specs.declared.object.Slot.{Slot}
 use Rattle.rows.specs.Holds.{holds}
 use Rattle.rows.specs.Sizes.{size-slots}
-use Rattle.rows.specs.Slots.{before, SlotsTo, slots-none, slot-before, slots_next, slots-more}
+use Rattle.rows.specs.Slots.{before, slots-none, slot-before, slots_next, slots-more}
 use Rattle.signal.proofs.Timers.{fired-same, over_none}
-use Rattle.pass.specs.Timers.{fired_slot, over_of, any_over}
+use Rattle.pass.specs.Timers.{fired_slot, over_of}
 use Rattle.tries.proofs.Fired.{over_hit, over_miss, over-end, fired-all}
 use borrow.Author.Rules.{rules}
 use Rattle.tries.proofs.slots.fire.Goals as goal
@@ -38,14 +36,14 @@ loop-i-preserved c = let l = c.loop-i in
       search rules,
       elim c.if-slot_due.branch [
         | then-slot_due+else-slot_over w ↦
-          let n = slots-more s f l.i l.block h g.0 w.fired_slot.result (w.fired_slot.ensures ∙ ap (f 0) old) in
-          let m = over_miss t (before s) l.i g.1 (omega (arith, size-slots s)) (ap (λ (x : Slot). over_of x.object t) (sym old) ∙ sym w.slot_over.ensures ∙ w.if-slot_over.false) in
-          rw (w.block-is, w.put_slot.ensures) (n.rows.long, (n, m))
+            let n = slots-more s f l.i l.block h g.0 w.fired_slot.result (w.fired_slot.ensures ∙ ap (f 0) old) in
+            let m = over_miss t (before s) l.i g.1 (omega (arith, size-slots s)) (ap (λ (x : Slot). over_of x.object t) (sym old) ∙ sym w.slot_over.ensures ∙ w.if-slot_over.false) in
+            rw (w.block-is, w.put_slot.ensures) (n.rows.long, (n, m))
         | else-slot_due w ↦
-          let d = sym c.slot_due.ensures ∙ w.if-slot_due.false in
-          let n = slots_next s f l.i l.block h g.0 (subst (λ (x : Slot). f 0 x ≡ x) old (fired-same c.slot_at-old.result c.slot_at-old.result.object t d)) in
-          let m = over_miss t (before s) l.i g.1 (omega (arith, size-slots s)) (ap (λ (x : Slot). over_of x.object t) (sym old) ∙ over_none c.slot_at-old.result.object t d) in
-          rw w.block-is (n.rows.long, (n, m))
+            let d = sym c.slot_due.ensures ∙ w.if-slot_due.false in
+            let n = slots_next s f l.i l.block h g.0 (subst (λ (x : Slot). f 0 x ≡ x) old (fired-same c.slot_at-old.result c.slot_at-old.result.object t d)) in
+            let m = over_miss t (before s) l.i g.1 (omega (arith, size-slots s)) (ap (λ (x : Slot). over_of x.object t) (sym old) ∙ over_none c.slot_at-old.result.object t d) in
+            rw w.block-is (n.rows.long, (n, m))
       ],
     )
 

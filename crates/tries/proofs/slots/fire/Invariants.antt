@@ -1,17 +1,8 @@
-use mathlib.Core.Path.{◌≡◌, refl, sym, ap, subst, ◌∙◌}
-use mathlib.Core.Logic.{⊎_elim}
-use mathlib.Core.Bool.{true≢false}
-use Prim.Native.Nat.{ℕ, ◌-◌, ◌≤◌, ◌<◌}
-use native.Mathlib.Omega.{arith}
+use mathlib.Core.Path.{◌≡◌}
+use Prim.Native.Nat.{◌-◌, ◌≤◌}
 use lib.ListN.{length, drop}
-use Rattle.types.specs.declared.object.Slot.{Slot}
-use Rattle.rows.specs.Holds.{holds}
-use Rattle.rows.specs.Sizes.{size-slots}
-use Rattle.rows.specs.Slots.{before, SlotsTo, slots-none, slot-before, slots_next, slots-more}
-use Rattle.signal.proofs.Timers.{fired-same, over_none}
-use Rattle.pass.specs.Timers.{fired_slot, over_of, any_over}
-use Rattle.tries.proofs.Fired.{over_hit, over_miss, over-end, fired-all}
-use borrow.Author.Rules.{rules}
+use Rattle.rows.specs.Slots.{before, SlotsTo}
+use Rattle.pass.specs.Timers.{fired_slot, any_over}
 use Rattle.tries.proofs.slots.fire.Given as goal
 
 abbrev pub invariant-loop-i : goal.invariant-loop-i

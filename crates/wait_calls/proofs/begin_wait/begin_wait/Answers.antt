@@ -11,7 +11,6 @@ use Rattle.rows.specs.Holds.{put-thread}
 use Rattle.rows.specs.Sizes.{size-threads}
 use Rattle.rows.specs.Current.{current-place}
 use Rattle.wait_calls.proofs.Begins.{begun-once}
-use borrow.Author.Rules.{rules}
 use Rattle.wait_calls.proofs.begin_wait.begin_wait.Goals as goal
 
 pub thread_at-t-requires : goal.thread_at-t-requires

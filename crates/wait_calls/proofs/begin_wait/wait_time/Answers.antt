@@ -1,5 +1,4 @@
 use mathlib.Core.Path.{sym, ◌∙◌}
-use borrow.Author.Rules.{rules}
 use Rattle.wait_calls.proofs.begin_wait.wait_time.Goals as goal
 
 pub returns-then-negative : goal.returns-then-negative

@@ -1,10 +1,6 @@
-use borrow.Author.Rules.{rules}
-use mathlib.Core.Path.{◌≡◌, ◌∙◌}
 use Prim.Native.Nat.{◌-◌, ◌≤◌}
-use native.Mathlib.Omega.{arith}
-use lib.ListN.{length, take, length-take}
 use Rattle.block.specs.Block.{dec_block}
-use Rattle.wait_calls.proofs.Looked.{Looking, looked-none, looked-all, looked-more}
+use Rattle.wait_calls.proofs.Looked.{Looking}
 use Rattle.types.specs.Thread.{wait_list}
 use Rattle.wait_calls.proofs.handles.look_up.Given as goal
 

@@ -1,11 +1,10 @@
 use borrow.Author.Rules.{rules}
 use mathlib.Core.Path.{◌≡◌}
-use Prim.Native.Nat.{◌-◌, ◌≤◌}
 use native.Mathlib.Omega.{arith}
 use lib.ListN.{length, take, get_or}
 use Rattle.block.specs.Block.{dec_block}
 use Rattle.wait_calls.proofs.Words.{words-at, words-end, words-over}
-use Rattle.wait_calls.proofs.Opens.{Opening, open_none, open_end, open_unknown, open_more}
+use Rattle.wait_calls.proofs.Opens.{open_none, open_end, open_unknown, open_more}
 use Rattle.types.specs.Thread.{wait_list}
 use Rattle.wait_calls.proofs.handles.open_list.Goals as goal
 

@@ -1,4 +1,3 @@
-use borrow.Author.Rules.{rules}
 use Rattle.wait_calls.proofs.many.full_if.Goals as goal
 
 pub returns : goal.returns

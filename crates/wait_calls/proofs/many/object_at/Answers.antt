@@ -1,6 +1,5 @@
 use native.Mathlib.Omega.{arith}
 use Rattle.wait_calls.proofs.Words.{object-over, object-far, object-here}
-use borrow.Author.Rules.{rules}
 use Rattle.wait_calls.proofs.many.object_at.Goals as goal
 
 pub returns-then-n-i : goal.returns-then-n-i

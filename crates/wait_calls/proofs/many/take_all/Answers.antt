@@ -5,7 +5,6 @@ use Rattle.sound.specs.View.{ids}
 use Rattle.pass.specs.Signal.{acquires}
 use Rattle.svc.specs.Call.{gives, with_objects}
 use Rattle.outcome.specs.Outcome.{outcome-0, outcome-found, left-0}
-use borrow.Author.Rules.{rules}
 use Rattle.wait_calls.proofs.many.take_all.Goals as goal
 
 pub returns-then-found-ne0 : goal.returns-then-found-ne0

@@ -3,7 +3,6 @@ use Rattle.block.specs.Block.{dec_block}
 use Rattle.pass.specs.Signal.{acquire}
 use Rattle.svc.specs.Call.{with_objects}
 use Rattle.wait_calls.proofs.Lists.{for-all, gives-refused, gives-done}
-use borrow.Author.Rules.{rules}
 use Rattle.wait_calls.proofs.many.take_at.Goals as goal
 
 pub returns-then-all : goal.returns-then-all

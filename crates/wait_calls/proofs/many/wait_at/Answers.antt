@@ -5,7 +5,6 @@ use Rattle.svc.specs.Call.{answers}
 use Rattle.wait_calls.specs.Waits.{wait_on_in}
 use Rattle.wait_calls.proofs.Begins.{begun-none}
 use Rattle.wait_calls.proofs.Ways.{leaves, stays}
-use borrow.Author.Rules.{rules}
 use Rattle.wait_calls.proofs.many.wait_at.Goals as goal
 
 pub returns-then-is_zero : goal.returns-then-is_zero

@@ -2,7 +2,6 @@ use mathlib.Core.Path.{refl, sym, ap, ◌∙◌}
 use mathlib.Core.Bool.{Bool, not}
 use lib.Dec.{eqb}
 use lib.ListN.{take}
-use borrow.Author.Tests.{not-true, not-false}
 use Rattle.types.specs.declared.thread.ThreadOption.TheVariants.{SomeThread}
 use Rattle.types.specs.Thread.{thread_flag, thread_value}
 use Rattle.block.specs.Block.{dec_block}
@@ -14,7 +13,6 @@ use Rattle.rows.specs.Current.{some-thread}
 use Rattle.wait_calls.specs.Waits.{take_in}
 use Rattle.wait_calls.proofs.Ways.{stays}
 use Rattle.wait_calls.proofs.Lists.{unknown, nobody, waits, settles}
-use borrow.Author.Rules.{rules}
 use Rattle.wait_calls.proofs.many.wait_list.Goals as goal
 
 pub returns-then-not-known : goal.returns-then-not-known

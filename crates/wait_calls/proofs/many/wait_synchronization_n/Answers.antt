@@ -13,7 +13,6 @@ use Rattle.outcome.specs.Findings.{found_of}
 use Rattle.wait_calls.proofs.Far.{finds_none}
 use Rattle.wait_calls.proofs.Ways.{refuses}
 use Rattle.wait_calls.proofs.Whole.{full-before, call-refused, call_none, looked-is, ready}
-use borrow.Author.Rules.{rules}
 use Rattle.wait_calls.proofs.many.wait_synchronization_n.Goals as goal
 
 pub returns-then-found-ne0 : goal.returns-then-found-ne0

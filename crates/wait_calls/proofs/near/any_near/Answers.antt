@@ -1,13 +1,8 @@
 use borrow.Author.Rules.{rules}
-use mathlib.Core.Path.{◌≡◌, refl, sym, ap, ◌∙◌}
-use Prim.Native.Nat.{◌-◌, ◌≤◌}
+use mathlib.Core.Path.{refl, sym, ap, ◌∙◌}
 use native.Mathlib.Omega.{arith}
-use lib.ListN.{take, drop}
 use Rattle.laws.specs.Logic.{or_yes, or_no}
 use Rattle.types.specs.declared.object.Slot.{Slot}
-use Rattle.types.specs.Thread.{wait_list}
-use Rattle.block.specs.Block.{dec_block}
-use Rattle.sound.specs.View.{ids}
 use Rattle.object.proofs.Laws.{list_at, list-end, list_over}
 use Rattle.wait_calls.specs.Near.{near, any_near}
 use Rattle.wait_calls.proofs.near.any_near.Goals as goal

@@ -1,8 +1,6 @@
 use mathlib.Core.Path.{sym, ap, ◌∙◌}
 use mathlib.Core.Bool.{Bool}
-use borrow.Author.Tests.{not-true, not-false}
 use Rattle.laws.specs.Logic.{◌or◌, and_yes, and_no}
-use borrow.Author.Rules.{rules}
 use Rattle.wait_calls.proofs.near.may_find.Goals as goal
 
 pub returns-then-not-either : goal.returns-then-not-either

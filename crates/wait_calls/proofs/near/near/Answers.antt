@@ -1,4 +1,3 @@
-use borrow.Author.Rules.{rules}
 use Rattle.wait_calls.proofs.near.near.Goals as goal
 
 pub returns-in-Mutex : goal.returns-in-Mutex

@@ -12,7 +12,6 @@ use Rattle.outcome.specs.Outcome.{outcome-0, outcome-found}
 use Rattle.wait_calls.specs.Waits.{wait_on_in}
 use Rattle.wait_calls.proofs.Begins.{begun-none}
 use Rattle.wait_calls.proofs.Ways.{leaves, stays}
-use borrow.Author.Rules.{rules}
 use Rattle.wait_calls.proofs.one.wait_one.Goals as goal
 
 pub returns-then-found-ne0 : goal.returns-then-found-ne0

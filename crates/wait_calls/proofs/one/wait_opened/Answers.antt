@@ -8,7 +8,6 @@ use Rattle.svc.specs.Waits.{wait1_as}
 use Rattle.outcome.specs.Outcome.{outcome, left}
 use Rattle.rows.specs.Current.{some-thread}
 use Rattle.wait_calls.proofs.Ways.{stays, unknown, nobody, waits}
-use borrow.Author.Rules.{rules}
 use Rattle.wait_calls.proofs.one.wait_opened.Goals as goal
 
 pub returns-then-o-eq0 : goal.returns-then-o-eq0

@@ -1,6 +1,4 @@
 use Rattle.laws.specs.Logic.{◌and◌}
-use borrow.Author.Tests.{not-true, not-false}
-use borrow.Author.Rules.{rules}
 use Rattle.wait_calls.proofs.room.lacking.Goals as goal
 
 pub returns-then-none : goal.returns-then-none

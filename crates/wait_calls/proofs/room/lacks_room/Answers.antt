@@ -7,7 +7,6 @@ use Rattle.block.specs.Block.{dec_block}
 use Rattle.sound.specs.View.{slot_at}
 use Rattle.objects.proofs.Room.{free-is}
 use Rattle.wait_calls.specs.Room.{lacking}
-use borrow.Author.Rules.{rules}
 use Rattle.wait_calls.proofs.room.lacks_room.Goals as goal
 
 pub returns : goal.returns

@@ -1,11 +1,9 @@
 use borrow.Author.Rules.{rules}
 use mathlib.Core.Path.{◌≡◌, refl, sym, ◌∙◌}
-use Prim.Native.Nat.{◌-◌, ◌≤◌}
 use native.Mathlib.Omega.{arith}
-use lib.ListN.{length, take, drop}
-use borrow.Author.Tests.{eq-eqb, ne_eqb, not-true, not-false}
+use lib.ListN.{length}
+use borrow.Author.Tests.{eq-eqb, ne_eqb}
 use Rattle.laws.specs.Logic.{pick_yes, pick_no}
-use Rattle.block.specs.Block.{dec_block}
 use Rattle.wait_calls.specs.Room.{met}
 use Rattle.wait_calls.proofs.Words.{words-at, words-end, words-over}
 use Rattle.types.specs.Thread.{wait_list}

@@ -1,13 +1,8 @@
-use borrow.Author.Rules.{rules}
-use mathlib.Core.Path.{◌≡◌, refl, sym, ◌∙◌}
+use mathlib.Core.Path.{◌≡◌}
 use Prim.Native.Nat.{◌-◌, ◌≤◌}
-use native.Mathlib.Omega.{arith}
-use lib.ListN.{length, take, drop}
-use borrow.Author.Tests.{eq-eqb, ne_eqb, not-true, not-false}
-use Rattle.laws.specs.Logic.{pick_yes, pick_no}
+use lib.ListN.{take, drop}
 use Rattle.block.specs.Block.{dec_block}
 use Rattle.wait_calls.specs.Room.{met}
-use Rattle.wait_calls.proofs.Words.{words-at, words-end, words-over}
 use Rattle.types.specs.Thread.{wait_list}
 use Rattle.wait_calls.proofs.room.met.Given as goal
 

@@ -1,7 +1,5 @@
 use mathlib.Core.Path.{sym, ◌∙◌}
-use borrow.Author.Tests.{not-true, not-false}
 use Rattle.laws.specs.Logic.{and_no, and_yes}
-use borrow.Author.Rules.{rules}
 use Rattle.wait_calls.proofs.room.wants.Goals as goal
 
 pub returns-then-not-makes : goal.returns-then-not-makes

@@ -1,12 +1,10 @@
 use mathlib.Core.Path.{sym, ap, ◌∙◌}
-use borrow.Author.Tests.{not-true, not-false}
 use Rattle.laws.specs.Logic.{◌or◌}
 use Rattle.types.specs.declared.object.Slot.{Slot}
 use Rattle.types.specs.Thread.{thread_flag, thread_value}
 use Rattle.block.specs.Block.{dec_block}
 use Rattle.pass.specs.Signal.{is_signaled, acquire_over}
 use Rattle.wait_calls.proofs.Now.{over_none, over-nobody, over-some}
-use borrow.Author.Rules.{rules}
 use Rattle.wait_calls.proofs.taken.over_now.Goals as goal
 
 pub returns-then-not-over_after : goal.returns-then-not-over_after
