@@ -1,0 +1,5 @@
+use borrow.Author.Rules.{rules}
+use Rattle.threads.proofs.priority.thread_named.Goals as goal
+
+pub returns-in-Thread : goal.returns-in-Thread
+returns-in-Thread c = rw c.in-Thread.is
