@@ -28,8 +28,10 @@ restore() { # COPY
         done
     done
     # computed examples would refuse most of them first
-    for f in demand/specs/Witness history/specs/Plays history/specs/Witness; do rm "$1/crates/$f.antt"; done
-    for f in demand history; do sed -i '/^pub mod \(Plays\|Witness\)$/d' "$1/crates/$f/specs/Lib.antt"; done
+    for part in demand/specs demand/proofs history/specs history/proofs; do
+        rm -f "$1/crates/$part/Plays.antt" "$1/crates/$part/Witness.antt"
+        sed -i '/^pub mod \(Plays\|Witness\)$/d' "$1/crates/$part/Lib.antt"
+    done
 }
 
 # one patch; its result is the file NAME.result

@@ -86,7 +86,7 @@ fn best_in_row(row: &[Thread]) -> u32
     best
 }
 
-// Lends the table. A function that lends a row of records needs a proof by hand; its callers need none.
+// Lends the table.
 fn best_priority(ts: [Thread; 32]) -> u32
     ensures { result ≡ def.best ts }
 {

@@ -103,7 +103,7 @@ pub fn clear_wait(t: &mut Thread)
     *t = cleared(*t);
 }
 
-// For callers by value: a function that lends a record needs a proof by hand, and this one has it.
+// For callers by value.
 pub fn without_wait(t: Thread) -> Thread
     ensures { result ≡ clear_wait t }
 {

@@ -1,7 +1,7 @@
 use mathlib.Core.Path.{refl, ap, sym, ◌∙◌}
 use mathlib.Core.List.{List, []}
 use Prim.Native.Nat.{ℕ, ◌*◌}
-use borrow.Author.Tests.{eq-eqb, ne_eqb, not-true, not-false}
+use borrow.Author.Tests.{eq-eqb, ne_eqb}
 use Rattle.laws.specs.Logic.{and_no, and_yes, true-and, pick_yes, pick_no}
 use Rattle.codec.specs.Bytes.{bytes, over}
 use Rattle.codec.specs.Layout.{dec_as}
@@ -14,7 +14,6 @@ use Rattle.lent.specs.Lent.{Lent, lent, Back, back}
 use Rattle.lent.specs.Operations.{row_made}
 use Rattle.lent.specs.Operations as operation
 use Rattle.lent.proofs.Cases.{change-1, change-2, change-found, change-0, made-place}
-use borrow.Author.Rules.{rules}
 use Rattle.create_thread.proofs.operate.Goals as goal
 
 abbrev work : ℕ → ℕ → ℕ → ℕ → Kernel → Kernel

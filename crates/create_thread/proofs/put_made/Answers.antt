@@ -5,7 +5,6 @@ use Rattle.codec.proofs.Laws.{length-bytes, over-all}
 use Rattle.types.specs.declared.thread.ThreadContext.{ThreadContext}
 use Rattle.block.specs.Context.{enc_context}
 use Prim.Native.Nat.{◌*◌}
-use borrow.Author.Rules.{rules}
 use Rattle.create_thread.proofs.put_made.Goals as goal
 
 pub returns : goal.returns

@@ -8,7 +8,6 @@ use Rattle.types.specs.Thread.{is_dead}
 use Rattle.block.specs.Block.{dec_block}
 use Rattle.lent.specs.Operations.{end_refusal}
 use Rattle.end_thread.proofs.Place.{far-dead}
-use borrow.Author.Rules.{rules}
 use Rattle.end_thread.proofs.end_refusal.Goals as goal
 
 pub returns-then-get32-t : goal.returns-then-get32-t

@@ -1,7 +1,7 @@
 use mathlib.Core.Path.{refl, ap, sym, ◌∙◌}
 use mathlib.Core.List.{List, []}
 use Prim.Native.Nat.{ℕ}
-use borrow.Author.Tests.{eq-eqb, ne_eqb, not-true, not-false}
+use borrow.Author.Tests.{eq-eqb, ne_eqb}
 use Rattle.laws.specs.Logic.{pick_yes, pick_no}
 use Rattle.block.specs.Block.{enc_block}
 use Rattle.thread.specs.Threads.{end_thread}
@@ -10,7 +10,6 @@ use Rattle.lent.specs.Operations.{end_refusal}
 use Rattle.lent.specs.Operations as operation
 use Rattle.lent.proofs.Cases.{change-1, change-2, change-own, change-found, change-0}
 use Rattle.end_thread.proofs.Place.{refusal-place}
-use borrow.Author.Rules.{rules}
 use Rattle.end_thread.proofs.operate.Goals as goal
 
 pub returns-then-block-ne16384 : goal.returns-then-block-ne16384

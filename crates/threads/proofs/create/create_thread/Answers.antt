@@ -6,7 +6,6 @@ use Rattle.sound.specs.Objects.{kept_at}
 use Rattle.soundness.specs.Fits.{Word}
 use Rattle.outcome.specs.Outcome.{given, outcome-found, left-found}
 use Rattle.threads.proofs.Made.{made-finding, place, sound-made, kept-made, room-made, left-made, outcome-made}
-use borrow.Author.Rules.{rules}
 use Rattle.threads.proofs.create.create_thread.Goals as goal
 
 pub returns-then-found-ne0 : goal.returns-then-found-ne0

@@ -4,7 +4,6 @@ use Rattle.laws.specs.Logic.{◌or◌}
 use Rattle.codec.specs.Layout.{dec_as}
 use Rattle.block.specs.Block.{dec_block}
 use Rattle.outcome.specs.Findings.{found_of}
-use borrow.Author.Rules.{rules}
 use Rattle.threads.proofs.create.found_making.Goals as goal
 
 pub returns : goal.returns

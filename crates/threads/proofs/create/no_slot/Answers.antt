@@ -7,7 +7,6 @@ use Rattle.block.specs.Block.{dec_block}
 use Rattle.sound.specs.Objects.{kept_at}
 use Rattle.sound.proofs.Question.{t_block}
 use Rattle.threads.proofs.Forgotten.{made-free}
-use borrow.Author.Rules.{rules}
 use Rattle.threads.proofs.create.no_slot.Goals as goal
 
 pub returns-then-o-ne0 : goal.returns-then-o-ne0

@@ -6,7 +6,6 @@ use Rattle.sound.proofs.Question.{t_block}
 use Rattle.rows.specs.Head.{sound-head}
 use Rattle.rows.specs.Holds.{holds}
 use Rattle.threads.proofs.Handle.{handled}
-use borrow.Author.Rules.{rules}
 use Rattle.threads.proofs.create.put_handle.Goals as goal
 
 pub overflow_add-c : goal.overflow_add-c

@@ -6,7 +6,6 @@ use Rattle.rows.specs.Holds.{holds}
 use Rattle.outcome.specs.Outcome.{outcome-0, outcome-found, left-0, left-found}
 use Rattle.outcome.specs.Findings.{found_of}
 use Rattle.threads.proofs.Found.{exit_finding}
-use borrow.Author.Rules.{rules}
 use Rattle.threads.proofs.exit.exit_as.Goals as goal
 
 pub returns-then-found-ne0 : goal.returns-then-found-ne0

@@ -6,7 +6,6 @@ use Rattle.soundness.specs.Creates.{current-more}
 use mathlib.Core.Path.{sym, ap, subst, ◌∙◌}
 use Rattle.svc.specs.Threads.{exit_as, exit_thread}
 use Rattle.outcome.specs.Outcome.{outcome, left}
-use borrow.Author.Rules.{rules}
 use Rattle.threads.proofs.exit.exit_thread.Goals as goal
 
 pub exit_as-requires : goal.exit_as-requires

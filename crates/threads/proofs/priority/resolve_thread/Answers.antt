@@ -1,5 +1,4 @@
 use borrow.Author.Tests.{eq-eqb, ne_eqb}
-use borrow.Author.Rules.{rules}
 use Rattle.threads.proofs.priority.resolve_thread.Goals as goal
 
 pub returns-then-n : goal.returns-then-n

@@ -5,7 +5,6 @@ use Rattle.rows.specs.Holds.{holds, put-thread}
 use Rattle.outcome.specs.Outcome.{outcome-0, outcome-found, left-0, left-found}
 use Rattle.outcome.specs.Findings.{found_of}
 use Rattle.threads.proofs.Found.{priority-finding}
-use borrow.Author.Rules.{rules}
 use Rattle.threads.proofs.priority.set_priority_as.Goals as goal
 
 pub returns-then-found-ne0 : goal.returns-then-found-ne0

@@ -1,5 +1,4 @@
 use Rattle.svc.specs.Threads.{set_thread_priority}
-use borrow.Author.Rules.{rules}
 use Rattle.threads.proofs.priority.set_thread_priority.Goals as goal
 
 pub returns : goal.returns

@@ -1,4 +1,3 @@
-use borrow.Author.Rules.{rules}
 use Rattle.threads.proofs.priority.thread_named.Goals as goal
 
 pub returns-in-Thread : goal.returns-in-Thread

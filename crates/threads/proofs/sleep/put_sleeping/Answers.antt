@@ -1,6 +1,5 @@
 use borrow.Author.Tests.{le-ltb}
 use Rattle.rows.specs.Rows.{thread_put}
-use borrow.Author.Rules.{rules}
 use Rattle.threads.proofs.sleep.put_sleeping.Goals as goal
 
 pub returns-then-c-ge32 : goal.returns-then-c-ge32

@@ -2,7 +2,6 @@ use mathlib.Core.Path.{◌∙◌}
 use Rattle.block.specs.Block.{dec_block}
 use Rattle.rows.specs.Holds.{holds}
 use Rattle.threads.proofs.Found.{sleep-none}
-use borrow.Author.Rules.{rules}
 use Rattle.threads.proofs.sleep.sleep_as.Goals as goal
 
 pub sleep_at-requires : goal.sleep_at-requires

@@ -4,7 +4,6 @@ use Rattle.block.specs.Block.{dec_block}
 use Rattle.rows.specs.Holds.{holds, put-thread}
 use Rattle.svc.specs.Threads.{runs_since}
 use Rattle.threads.proofs.Found.{sleep-some}
-use borrow.Author.Rules.{rules}
 use Rattle.threads.proofs.sleep.sleep_at.Goals as goal
 
 pub returns-in-NoTick : goal.returns-in-NoTick

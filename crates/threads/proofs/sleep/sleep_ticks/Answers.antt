@@ -1,11 +1,9 @@
 use mathlib.Core.Path.{ap, sym, ◌∙◌}
 use mathlib.Core.List.{List}
-use borrow.Author.Tests.{not-true, not-false}
 use Rattle.types.specs.declared.thread.Thread.{Thread}
 use Rattle.types.specs.declared.thread.ThreadOption.{ThreadOption}
 use Rattle.block.specs.Block.{dec_block}
 use Rattle.pass.specs.Pick.{others_ready, others_from}
-use borrow.Author.Rules.{rules}
 use Rattle.threads.proofs.sleep.sleep_ticks.Goals as goal
 
 pub returns-then-not-is_zero : goal.returns-then-not-is_zero
