@@ -106,13 +106,13 @@ pub data Awaited : Type 0 where
 
 -- by the thread's record: its status, and then its list or its address
 abbrev pub awaits : ThreadStatus → Bool → List ℕ → AddressOption → Awaited
-awaits Dead all list address = nothing
-awaits Running all list address = nothing
-awaits Ready all list address = nothing
-awaits Sleeping all list address = time
-awaits WaitSync all list address = objects all list
-awaits WaitArbiter all list address = signal address
-awaits Dormant all list address = nothing
+awaits Dead all list place = nothing
+awaits Running all list place = nothing
+awaits Ready all list place = nothing
+awaits Sleeping all list place = time
+awaits WaitSync all list place = objects all list
+awaits WaitArbiter all list place = signal place
+awaits Dormant all list place = nothing
 
 abbrev pub awaited_by : Thread → Awaited
 awaited_by t = awaits t.status t.wait_all (take t.wait_count (ids t.wait_objects)) t.wait_address
