@@ -16,6 +16,7 @@ Turned: .antt files, the clauses and ghost items of .rt files, code spans of the
 
 import os
 import re
+import subprocess
 import sys
 
 WORD = re.compile(r"""[^\s(){}.;,@"«»`]+""")
@@ -27,7 +28,9 @@ OWN = re.compile(r"/proofs/.*/?(Proof|Answers|Invariants)\.antt$")
 OPERATORS = set("add sub mul div rem pow eq ne le lt ge gt zero suc one true false nil cons mem not and or refl".split())
 # names of the repository that would be words of the library
 OTHER = {"countBy": "count_marked"}
-PRELUDE = "/opt/rattle/rattle/std/specs/Prelude.antt"
+# the folder of the toolchain, of which `rt doc` prints the first page
+KIT = os.path.dirname(subprocess.run(["rt", "doc"], capture_output=True, text=True).stdout.strip())
+PRELUDE = os.path.join(KIT, "rattle/std/specs/Prelude.antt")
 
 
 def texts(top, *ends):
