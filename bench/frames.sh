@@ -64,9 +64,9 @@ lines=$(objdump -dr --no-show-raw-insn "$1" | awk '
         following = 0
         if (op ~ /^push/) moved(8)
         else if (op ~ /^pop/) moved(-8)
-        # pages of a large frame are touched one by one: to the end in r11, then by 0x1000 in a loop
+        # a large frame is touched step by step: its end is put in r11, then a loop takes as much at a time
         else if (op ~ /^sub/ && to ~ /^\$0x[0-9a-f]+,%r11$/) { moved(number(substr(to, 2, index(to, ",") - 2))); probing = 1 }
-        else if (op ~ /^sub/ && to == "$0x1000,%rsp" && probing) probing = 0
+        else if (op ~ /^sub/ && to ~ /^\$0x[0-9a-f]+,%rsp$/ && probing) probing = 0
         else if (op ~ /^sub/ && to ~ /^\$0x[0-9a-f]+,%rsp$/) moved(number(substr(to, 2, index(to, ",") - 2)))
         # 128 bytes are taken by adding -128, which is shorter
         else if (op ~ /^add/ && to == "$0xffffffffffffff80,%rsp") moved(128)
