@@ -16,7 +16,7 @@ lines=$(objdump -dr --no-show-raw-insn "$1" | awk '
     function moved(by) { depth += by; if (depth > frame[f]) frame[f] = depth }
     function calls(g, tail) { count[f]++; callee[f, count[f]] = g; tails[f, count[f]] = tail; following = 0 }
 
-    function levels(f) { return f ~ /mark_chain$/ ? 129 : 65 }
+    function levels(f) { return f ~ /mark_chain/ ? 129 : 65 }
 
     # bytes below the return address of f
     function total(f,   i, g, t, itself) {

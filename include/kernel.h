@@ -11,7 +11,7 @@
  * The library has no data of its own, takes no memory and calls nothing but memcpy, memmove and memset, so calls for kernels that
  * share no slice do not meet. For one kernel one call runs at a time: do not call from an interrupt that breaks into a call.
  *
- * A call takes up to 44 KB of stack, and bytes below the stack pointer as the x86-64 System V ABI allows; docs/FIRMWARE.md has
+ * A call takes up to 31 KB of stack, and bytes below the stack pointer as the x86-64 System V ABI allows; docs/FIRMWARE.md has
  * the figures of each function. A word is 32 bits, a tick 64; both are little-endian in slices.
  */
 #ifndef KERNEL_H

@@ -3,44 +3,38 @@ ghost use Rattle.std.specs.Prelude.{◌≡◌};
 ghost use Rattle.types.specs.Sync.{arbitration_from_raw};
 ghost use Rattle.svc.specs.Arbiter as def;
 
-use types::sync::{ArbitrationOption, ArbitrationType};
+use types::sync::ArbitrationType;
 
 // Kinds 0 to 4, and none above.
-pub fn from_raw(value: u32) -> ArbitrationOption
+pub fn from_raw(value: u32) -> Option<ArbitrationType>
     ensures { result ≡ arbitration_from_raw value }
 {
     match value {
-        0 => ArbitrationOption::SomeArbitration(ArbitrationType::Signal),
-        1 => ArbitrationOption::SomeArbitration(ArbitrationType::WaitIfLessThan),
-        2 => ArbitrationOption::SomeArbitration(ArbitrationType::DecrementAndWaitIfLessThan),
-        3 => ArbitrationOption::SomeArbitration(ArbitrationType::WaitIfLessThanWithTimeout),
-        4 => ArbitrationOption::SomeArbitration(
-            ArbitrationType::DecrementAndWaitIfLessThanWithTimeout,
-        ),
-        _ => ArbitrationOption::NoArbitration,
+        0 => Some(ArbitrationType::Signal),
+        1 => Some(ArbitrationType::WaitIfLessThan),
+        2 => Some(ArbitrationType::DecrementAndWaitIfLessThan),
+        3 => Some(ArbitrationType::WaitIfLessThanWithTimeout),
+        4 => Some(ArbitrationType::DecrementAndWaitIfLessThanWithTimeout),
+        _ => None,
     }
 }
 
 pub fn decrements(kind: ArbitrationType) -> bool
     ensures { result ≡ def.decrements kind }
 {
-    match kind {
-        ArbitrationType::Signal => false,
-        ArbitrationType::WaitIfLessThan => false,
-        ArbitrationType::DecrementAndWaitIfLessThan => true,
-        ArbitrationType::WaitIfLessThanWithTimeout => false,
-        ArbitrationType::DecrementAndWaitIfLessThanWithTimeout => true,
-    }
+    matches!(
+        &kind,
+        ArbitrationType::DecrementAndWaitIfLessThan
+            | ArbitrationType::DecrementAndWaitIfLessThanWithTimeout
+    )
 }
 
 pub fn has_timeout(kind: ArbitrationType) -> bool
     ensures { result ≡ def.has_timeout kind }
 {
-    match kind {
-        ArbitrationType::Signal => false,
-        ArbitrationType::WaitIfLessThan => false,
-        ArbitrationType::DecrementAndWaitIfLessThan => false,
-        ArbitrationType::WaitIfLessThanWithTimeout => true,
-        ArbitrationType::DecrementAndWaitIfLessThanWithTimeout => true,
-    }
+    matches!(
+        &kind,
+        ArbitrationType::WaitIfLessThanWithTimeout
+            | ArbitrationType::DecrementAndWaitIfLessThanWithTimeout
+    )
 }

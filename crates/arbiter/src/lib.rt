@@ -2,5 +2,6 @@
 #![tactic(auto)]
 
 pub mod kind;
+pub mod mark;
 pub mod park;
 pub mod wake;

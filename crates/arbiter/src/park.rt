@@ -1,12 +1,11 @@
 // A thread parks at an address (the waiting kinds of `arbitrate_address`).
-ghost use Rattle.std.specs.Prelude.{◌≡◌, ◌+◌, ◌-◌, ◌<◌, ltb};
+ghost use Rattle.std.specs.Prelude.{◌≡◌, ◌+◌, ◌<◌, ltb};
 ghost use Rattle.svc.specs.Arbiter as def;
 ghost use Rattle.svc.specs.Sync.{biased};
 ghost use Rattle.arbiter.specs.Park.{park_time_in, word_after, over_below};
 
-use svc::WordOption;
-use types::thread::{AddressOption, Thread, ThreadStatus, TickOption, WaitSyscall};
-use units::Nanos;
+use types::thread::{Thread, ThreadStatus, WaitSyscall};
+use units::{Nanos, Ticks};
 
 // Less than, as signed words.
 pub fn is_below(x: u32, y: u32) -> bool
@@ -16,65 +15,43 @@ pub fn is_below(x: u32, y: u32) -> bool
 }
 
 // A time-out of 0 counts, a negative one waits for good.
-pub fn park_time(timed: bool, nanos: Nanos) -> TickOption
+#[tactic(auto, using(laws::specs::Logic::and_yes, laws::specs::Logic::and_no))]
+pub fn park_time(timed: bool, nanos: Nanos) -> Option<Ticks>
     ensures { result ≡ park_time_in timed nanos.0 }
 {
-    if !timed {
-        return TickOption::NoTick;
+    if timed && !svc::read::negative(nanos) {
+        return Some(units::nanos_to_ticks(nanos));
     }
-    if svc::read::negative(nanos) {
-        return TickOption::NoTick;
-    }
-    TickOption::SomeTick(units::nanos_to_ticks(nanos))
+    None
 }
 
 // One less, as a signed word, if the kind decrements.
-pub fn word_after(decrements: bool, word: u32) -> WordOption
+pub fn word_after(decrements: bool, word: u32) -> Option<u32>
     ensures { result ≡ word_after decrements word }
 {
-    if !decrements {
-        return WordOption::NoWord;
+    if decrements {
+        return Some(word.wrapping_sub(1));
     }
-    if word == 0 {
-        return WordOption::SomeWord(4294967295);
-    }
-    WordOption::SomeWord(word - 1)
+    None
 }
 
 // One less than the least signed word does not fit.
+#[tactic(auto, using(laws::specs::Logic::and_yes, laws::specs::Logic::and_no))]
 pub fn over_below(decrements: bool, word: u32) -> bool
     ensures { result ≡ over_below decrements word }
 {
-    if !decrements {
-        return false;
-    }
-    word == 2147483648
+    decrements && word == 2147483648
 }
 
 // An older wait's result stays.
-pub fn parked(t: Thread, a: u32, wake: TickOption) -> Thread
+pub fn parked(t: Thread, a: u32, wake: Option<Ticks>) -> Thread
     ensures { result ≡ def.parked t a wake }
 {
-    let c = thread::thread::without_wait(t);
-    let list = c.wait_objects;
-    let since = c.running_since;
-    let result = c.wait_result;
     Thread {
         status: ThreadStatus::WaitArbiter,
-        priority: c.priority,
-        entry: c.entry,
-        stack_top: c.stack_top,
-        tls: c.tls,
-        processor_id: c.processor_id,
-        wait_objects: list,
-        wait_count: c.wait_count,
-        wait_all: c.wait_all,
         wakeup_at: wake,
-        running_since: since,
-        waited: c.waited,
-        wait_address: AddressOption::SomeAddress(a),
-        wait_result: result,
-        wait_syscall: WaitSyscall::ArbitrateAddress,
-        guest_id: c.guest_id,
+        wait_address: Some(a),
+        wait_syscall: Some(WaitSyscall::ArbitrateAddress),
+        ..thread::thread::without_wait(t)
     }
 }

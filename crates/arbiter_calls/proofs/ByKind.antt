@@ -1,17 +1,17 @@
 -- ArbitrateAddress by its kind. Assumes nothing.
+use Rattle.std.specs.Prelude.{Option, Some, None, Ok, Err}
+use Rattle.units.specs.declared.Ticks.{Ticks}
 use mathlib.Core.Path.{◌≡◌, refl, sym, ap, ◌∙◌}
 use mathlib.Core.Bool.{Bool, true, false, true≢false}
 use mathlib.Core.List.{List}
 use Prim.Native.Nat.{ℕ}
-use native.Mathlib.Omega.{arith}
 use lib.Dec.{ltb}
 use Rattle.laws.specs.Logic.{pick, ◌or◌}
 use Rattle.types.specs.declared.sync.ArbitrationType.{ArbitrationType}
 use Rattle.types.specs.declared.sync.ArbitrationType.TheVariants.{Signal, WaitIfLessThan, DecrementAndWaitIfLessThan, WaitIfLessThanWithTimeout, DecrementAndWaitIfLessThanWithTimeout}
-use Rattle.types.specs.declared.sync.ArbitrationOption.{ArbitrationOption}
-use Rattle.types.specs.declared.sync.ArbitrationOption.TheVariants.{NoArbitration, SomeArbitration}
-use Rattle.types.specs.declared.thread.TickOption.{TickOption}
 use Rattle.types.specs.declared.kernel.Kernel.{Kernel}
+use Rattle.types.specs.declared.refusal.Refusal.{Refusal}
+use Rattle.types.specs.Refusal.{refusal_number, refusal-some, unless_found}
 use Rattle.types.specs.Sync.{arbitration_from_raw}
 use Rattle.block.specs.Block.{dec_block}
 use Rattle.sound.specs.Question.{sound?}
@@ -22,8 +22,8 @@ use Rattle.svc.specs.Sync.{biased}
 use Rattle.svc.specs.Arbiter.{decrements, park_time, arbitrate_for, arbitrate_by, arbitrate_address}
 use Rattle.lent.specs.Operations.{finding, out_of_handles?}
 use Rattle.rows.specs.Holds.{holds}
-use Rattle.outcome.specs.Outcome.{refused, answered, outcome, left, outcome-0, outcome-found, left-0, left-found}
-use Rattle.outcome.specs.Findings.{found_of, same-finding}
+use Rattle.outcome.specs.Outcome.{answered, outcome, left, outcome-0, outcome-found, left-0, left-found}
+use Rattle.outcome.specs.Findings.{found_of, same-finding, room-none, room-refused}
 use Rattle.arbiter.specs.Park.{word_after, over_below}
 use Rattle.arbiter_calls.specs.Kinds.{signals, parks, goes_on, waits, waits_as, on_handle}
 
@@ -35,16 +35,23 @@ is_wait DecrementAndWaitIfLessThan = true
 is_wait WaitIfLessThanWithTimeout = true
 is_wait DecrementAndWaitIfLessThanWithTimeout = true
 
+pub not-signal : (kind : ArbitrationType) → (kind ≡ Signal → ⊥) → is_wait kind ≡ true
+not-signal Signal n = absurd (n refl)
+not-signal WaitIfLessThan n = refl
+not-signal DecrementAndWaitIfLessThan n = refl
+not-signal WaitIfLessThanWithTimeout n = refl
+not-signal DecrementAndWaitIfLessThanWithTimeout n = refl
+
 module _ (k : Kernel) (r : Registers) (word tick : ℕ) where
-  by_kind : (x : ArbitrationOption) → arbitration_from_raw r.r2 ≡ x → arbitrate_by x k r word tick ≡ arbitrate_address k r word tick
+  by_kind : (x : Option ArbitrationType) → arbitration_from_raw r.r2 ≡ x → arbitrate_by x k r word tick ≡ arbitrate_address k r word tick
   unfolding arbitrate_address
-  by_kind x e = ap (λ (y : ArbitrationOption). arbitrate_by y k r word tick) (sym e)
+  by_kind x e = ap (λ (y : Option ArbitrationType). arbitrate_by y k r word tick) (sym e)
 
-  pub no_kind : arbitration_from_raw r.r2 ≡ NoArbitration → answers 18 k ≡ arbitrate_address k r word tick
-  no_kind e = by_kind NoArbitration e
+  pub no_kind : arbitration_from_raw r.r2 ≡ None → answers 18 k ≡ arbitrate_address k r word tick
+  no_kind e = by_kind None e
 
-  pub some-kind : (kind : ArbitrationType) → arbitration_from_raw r.r2 ≡ SomeArbitration kind → arbitrate_for kind k (resolved k r.r0) r word tick ≡ arbitrate_address k r word tick
-  some-kind kind e = by_kind (SomeArbitration kind) e
+  pub some-kind : (kind : ArbitrationType) → arbitration_from_raw r.r2 ≡ Some kind → arbitrate_for kind k (resolved k r.r0) r word tick ≡ arbitrate_address k r word tick
+  some-kind kind e = by_kind (Some kind) e
 
   pub signal-kind : (kind : ArbitrationType) → kind ≡ Signal → on_handle k r.r0 (signals r.r1 r.r3) ≡ arbitrate_for kind k (resolved k r.r0) r word tick
   unfolding on_handle
@@ -74,7 +81,7 @@ module _ (b : List ℕ) where
   waits-kind r word tick = waits-over (dec_block b) r word tick none_over
 
 -- ---- the kinds that wait, by whether the word is less than the value
-module _ (k : Kernel) (h : ℕ) (d : Bool) (time : TickOption) (a value word tick : ℕ) where
+module _ (k : Kernel) (h : ℕ) (d : Bool) (time : Option Ticks) (a value word tick : ℕ) where
   pub not-below : ltb (biased word) (biased value) ≡ false → on_handle k h goes_on ≡ on_handle k h (waits d time a value word tick)
   not-below e = ap (on_handle k h) (λ i q o. pick (sym e i) (parks a time tick (over_below d word) (word_after d word) q o) (goes_on q o))
 
@@ -91,12 +98,12 @@ module _ (b : List ℕ) (n : ℕ) where
   abbrev v : Served
   v = answers n (dec_block b)
 
-  pub answers-over : out_of_handles? (dec_block b) ≡ true → (refused 8 ≡ outcome v) × (b ≡ left v b)
-  answers-over e =
-      let f : finding (dec_block b) ≡ 8 = same-finding b ∙ ap (found_of false) e in
-      (sym (outcome-found v 8 f (λ w. omega (arith, w))), sym (left-found v b (λ w. omega (arith, f, w))))
+  pub answers-over : (r : Refusal) → unless_found {A = Unit {0}} (found_of false (out_of_handles? (dec_block b))) tt ≡ Err r → (Err r ≡ outcome v) × (b ≡ left v b)
+  answers-over r e =
+      let f : finding (dec_block b) ≡ refusal_number r = same-finding b ∙ room-refused false (out_of_handles? (dec_block b)) tt r e in
+      (sym (outcome-found v r f), sym (left-found v b (λ w. refusal-some r (sym f ∙ w))))
 
-  pub answers-same : sound? b ≡ true → out_of_handles? (dec_block b) ≡ false → (answered n ≡ outcome v) × (b ≡ left v b)
-  answers-same s e =
-      let f : finding (dec_block b) ≡ 0 = same-finding b ∙ ap (found_of false) e in
+  pub answers-same : sound? b ≡ true → (u : Unit {0}) → unless_found (found_of false (out_of_handles? (dec_block b))) tt ≡ Ok u → (Ok (answered n) ≡ outcome v) × (b ≡ left v b)
+  answers-same s u e =
+      let f : finding (dec_block b) ≡ 0 = same-finding b ∙ room-none false (out_of_handles? (dec_block b)) tt u e in
       (sym (outcome-0 v f), (holds b s).same ∙ sym (left-0 v b f))

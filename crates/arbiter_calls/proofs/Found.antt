@@ -1,4 +1,6 @@
 -- What is found if the current thread parks. Assumes nothing.
+use Rattle.std.specs.Prelude.{Option, Some, None, Err}
+use Rattle.units.specs.declared.Ticks.{Ticks}
 use mathlib.Core.Path.{◌≡◌, refl, sym, ap, ◌∙◌}
 use mathlib.Core.Bool.{Bool, true, false, not}
 use mathlib.Core.List.{List}
@@ -11,12 +13,11 @@ use borrow.Author.Tests.{eq-eqb, ne_eqb}
 use Rattle.laws.specs.Logic.{pick, ◌and◌, ◌or◌, and-end, and-false, or-end, or-false}
 use Rattle.codec.specs.Bytes.{le}
 use Rattle.codec.specs.Layout.{dec_as}
-use Rattle.types.specs.declared.thread.ThreadOption.{ThreadOption}
-use Rattle.types.specs.declared.thread.ThreadOption.TheVariants.{NoThread, SomeThread}
-use Rattle.types.specs.declared.thread.TickOption.{TickOption}
 use Rattle.types.specs.declared.object.KObject.{KObject}
 use Rattle.types.specs.declared.object.KObject.TheVariants.{Free, Thread, Event, Mutex, Semaphore, Timer, AddressArbiter, Process, ResourceLimit}
 use Rattle.types.specs.declared.object.ObjectStore.{ObjectStore}
+use Rattle.types.specs.declared.refusal.Refusal.{Refusal}
+use Rattle.types.specs.Refusal.{refusal_number, unless_found}
 use Rattle.types.specs.declared.kernel.Kernel.{Kernel}
 use Rattle.block.specs.Block.{enc_block, dec_block}
 use Rattle.sound.specs.View.{slot_at, object_at, thread_at, waiter_threads, waiter_addresses}
@@ -29,13 +30,12 @@ use Rattle.object.specs.Waiters.{is_arbiter, pushed, push}
 use Rattle.pass.specs.Asks.{pseudo, open_object}
 use Rattle.pass.specs.Waits.{wake_tick}
 use Rattle.svc.specs.declared.Served.{Served}
-use Rattle.svc.specs.declared.WordOption.{WordOption}
 use Rattle.svc.specs.Call.{with_objects, with_over, resolved}
 use Rattle.svc.specs.Arbiter.{parked, park_as}
 use Rattle.svc.proofs.Handles.{plain}
 use Rattle.lent.specs.Operations.{finding, out_of_handles?}
 use Rattle.rows.specs.Holds.{Holds}
-use Rattle.outcome.specs.Findings.{found_of, none_found, over-finding}
+use Rattle.outcome.specs.Findings.{found_of, none_found, over-finding, room-refused}
 use Rattle.objects.specs.Open.{no_room, Names}
 use Rattle.objects.proofs.Room.{opened-full, opened-sum, opened-finding}
 use Rattle.objects.proofs.Pseudo.{pseudo-object}
@@ -81,12 +81,12 @@ other-kind (AddressArbiter a) z = absurd (z refl)
 other-kind Process z = refl
 other-kind ResourceLimit z = refl
 
-stores-none : (s : ObjectStore) (c : ThreadOption) (o a : ℕ) → is_arbiter (object_at s o) ≡ false → lacks s c o a ≡ false
+stores-none : (s : ObjectStore) (c : Option ℕ) (o a : ℕ) → is_arbiter (object_at s o) ≡ false → lacks s c o a ≡ false
 unfolding ◌and◌
-stores-none s NoThread o a e = refl
-stores-none s (SomeThread t) o a e = rw e
+stores-none s None o a e = refl
+stores-none s (Some t) o a e = rw e
 
-zero-none : (s : ObjectStore) (c : ThreadOption) (o a : ℕ) → o ≡ 0 → lacks s c o a ≡ false
+zero-none : (s : ObjectStore) (c : Option ℕ) (o a : ℕ) → o ≡ 0 → lacks s c o a ≡ false
 unfolding slot_at
 zero-none s c o a e = stores-none s c o a (ap (λ (n : ℕ). is_arbiter (object_at s n)) e)
 
@@ -112,15 +112,15 @@ module _ (b : List ℕ) (s : sound? b ≡ true) (h a : ℕ) where
   lacks_as false e z r = ap (λ (y : Resolved). lacks y.store k.current_thread y.object.0 a) (plain-is e)
 
   -- ---- the thread parks
-  module _ (time : TickOption) (tick : ℕ) (over : Bool) where
-    parked_as : (c : ThreadOption) → finding (with_over (park_as c (with_objects k x.store) x.object.0 a time tick) over) ≡ found_of (no_room k h or lacks x.store c x.object.0 a) (over or out_of_handles? k)
+  module _ (time : Option Ticks) (tick : ℕ) (over : Bool) where
+    parked_as : (c : Option ℕ) → finding (with_over (park_as c (with_objects k x.store) x.object.0 a time tick) over) ≡ found_of (no_room k h or lacks x.store c x.object.0 a) (over or out_of_handles? k)
     unfolding ◌and◌ ◌or◌
-    parked_as NoThread = over-finding b k.threads x.store over ∙ (λ i. found_of ((opened-full b h ∙ sym (or-end (no_room k h))) i) (over or (opened-sum b h i or out_of_handles? k)))
-    parked_as (SomeThread t) =
+    parked_as None = over-finding b k.threads x.store over ∙ (λ i. found_of ((opened-full b h ∙ sym (or-end (no_room k h))) i) (over or (opened-sum b h i or out_of_handles? k)))
+    parked_as (Some t) =
         over-finding b (set k.threads t (parked (thread_at k.threads t) a (wake_tick time tick))) (push x.store x.object.0 t a) over
         ∙ (λ i. found_of ((push-full x.store x.object.0 t a ∙ ap (λ (v : Bool). v or (stores x.store x.object.0 t a and eqb x.store.free_waiter 0)) (opened-full b h)) i) (over or ((push-overflow x.store x.object.0 t a ∙ opened-sum b h) i or out_of_handles? k)))
 
-    module _ (word : WordOption) where
+    module _ (word : Option ℕ) where
       abbrev call : Served
       call = on_handle k h (parks a time tick over word)
 
@@ -151,6 +151,10 @@ module _ (b : List ℕ) (s : sound? b ≡ true) (h a : ℕ) where
       opened-finding b h ∙ rw ((or-false (no_room k h) (no_record k h a) w.0).0, (or-false (over and known k h) (out_of_handles? k) w.1).1)
 
 -- ---- as the block is asked
+pub parking-refused : (k : Kernel) (h a : ℕ) (over : Bool) (r : Refusal) → unless_found {A = Unit {0}} (found_parking k h a over) tt ≡ Err r → found_parking k h a over ≡ refusal_number r
+unfolding found_parking
+parking-refused k h a over r e = room-refused _ _ tt r e
+
 pub free-is : (b : List ℕ) → le 4 b 36 ≡ (dec_block b).objects.free_waiter
 unfolding dec_block dec_as
 free-is b = refl

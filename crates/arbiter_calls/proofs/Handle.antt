@@ -1,11 +1,15 @@
 -- A call that opens its handle and goes on from there, by f. Assumes nothing.
-use mathlib.Core.Path.{◌≡◌, refl, sym, ◌∙◌}
+use Rattle.std.specs.Prelude.{Result, Ok}
+use mathlib.Core.Path.{◌≡◌, refl, sym, ap, ◌∙◌}
 use mathlib.Core.Bool.{true}
 use mathlib.Core.List.{List}
 use mathlib.Core.Logic.{◌≢◌}
 use Prim.Native.Nat.{ℕ}
 use lib.Dec.{eqb}
 use borrow.Author.Tests.{eq-eqb, ne_eqb}
+use Rattle.units.specs.declared.ObjectId.{ObjectId}
+use Rattle.types.specs.declared.refusal.Refusal.{Refusal}
+use Rattle.types.specs.Refusal.{found_in}
 use Rattle.types.specs.declared.kernel.Kernel.{Kernel}
 use Rattle.block.specs.Block.{dec_block}
 use Rattle.sound.specs.Question.{sound?}
@@ -17,8 +21,7 @@ use Rattle.rows.specs.Holds.{Holds}
 use Rattle.outcome.specs.declared.Outcome.{Outcome}
 use Rattle.outcome.specs.Outcome.{answered, accepted, outcome, left}
 use Rattle.outcome.specs.Findings.{pick-finding}
-use Rattle.objects.specs.declared.open.Opened.{Opened}
-use Rattle.objects.specs.Open.{Opens}
+use Rattle.objects.specs.Open.{Opens, object_in}
 use Rattle.objects.proofs.Sound.{opened-state}
 use Rattle.objects.proofs.Calls.{accepted-call}
 use Rattle.arbiter_calls.specs.Kinds.{on_handle}
@@ -43,16 +46,22 @@ module _ (k : Kernel) (h : ℕ) (f : Kernel → ℕ → Served) where
   unfolding on_handle
   handle_finding g = pick-finding (eqb x.object.0 0) (finding opened) (answers 16 opened) (f opened x.object.0) refl (g opened x.object.0)
 
--- nothing was found; e is the block with the handle open
-module _ (b : List ℕ) (s : sound? b ≡ true) (h : ℕ) (f : Kernel → ℕ → Served) (e : List ℕ) (o : Opened) (p : Opens (dec_block b) (resolved (dec_block b) h) b e o) (z : o.found ≡ 0)
+-- the handle opened the object i; e is the block then
+module _ (b : List ℕ) (s : sound? b ≡ true) (h : ℕ) (f : Kernel → ℕ → Served) (e : List ℕ) (o : Result ObjectId Refusal) (p : Opens (dec_block b) (resolved (dec_block b) h) b e o) (i : ObjectId) (q : o ≡ Ok i)
     (g : finding (on_handle (dec_block b) h f).kernel ≡ finding (with_objects (dec_block b) (resolved (dec_block b) h).store)) where
   abbrev call : Served
   call = on_handle (dec_block b) h f
 
-  pub not_known : o.object.0 ≡ 0 → (a : Outcome) → a ≡ answered 16 → (a ≡ outcome call) × (e ≡ left call b)
-  not_known w a u = accepted-call b h e o p call g z (answers 16 (with_objects (dec_block b) (resolved (dec_block b) h).store)) (unknown-is (dec_block b) h f (sym (p.object z) ∙ w)) a u e (p.holds z)
+  none : found_in o ≡ 0
+  none = ap found_in q
 
-  pub known : o.object.0 ≢ 0 → (a : Outcome) → a ≡ accepted (f (dec_block e) o.object.0) → (d : List ℕ) → Holds d (f (dec_block e) o.object.0).kernel → (a ≡ outcome call) × (d ≡ left call b)
+  object-is : i.0 ≡ (resolved (dec_block b) h).object.0
+  object-is = sym (ap object_in q) ∙ p.object none
+
+  pub not_known : i.0 ≡ 0 → (a : Outcome) → a ≡ answered 16 → (Ok a ≡ outcome call) × (e ≡ left call b)
+  not_known w a u = accepted-call b h e o p call g none (answers 16 (with_objects (dec_block b) (resolved (dec_block b) h).store)) (unknown-is (dec_block b) h f (sym object-is ∙ w)) a u e (p.holds none)
+
+  pub known : i.0 ≢ 0 → (a : Outcome) → a ≡ accepted (f (dec_block e) i.0) → (d : List ℕ) → Holds d (f (dec_block e) i.0).kernel → (Ok a ≡ outcome call) × (d ≡ left call b)
   known w a u d r =
-      accepted-call b h e o p call g z (f (dec_block e) o.object.0)
-      ((λ i. f (opened-state b s h e o p z i) (p.object z i)) ∙ known_is (dec_block b) h f (λ v. w (p.object z ∙ v))) a u d r
+      accepted-call b h e o p call g none (f (dec_block e) i.0)
+      ((λ j. f (opened-state b s h e o p none j) (object-is j)) ∙ known_is (dec_block b) h f (λ v. w (object-is ∙ v))) a u d r

@@ -1,11 +1,12 @@
 -- The record of a thread that parks: where it goes, and what the block holds then. Assumes nothing.
+use Rattle.std.specs.Prelude.{Some, None, is_some}
 use mathlib.Core.Path.{◌≡◌, refl, sym, ap, subst, ◌∙◌}
 use mathlib.Core.Bool.{Bool, true, false, not}
 use mathlib.Core.List.{List}
 use Prim.Native.Nat.{ℕ}
 use lib.Dec.{eqb}
 use lib.ListN.{length}
-use Rattle.laws.specs.Logic.{pick, ◌and◌, pick_yes, false-true}
+use Rattle.laws.specs.Logic.{pick, ◌and◌, false-true}
 use Rattle.codec.specs.Bytes.{over}
 use Rattle.codec.specs.Layout.{enc_all, dec_all}
 use Rattle.types.specs.declared.object.Slot.{Slot}
@@ -25,8 +26,7 @@ use Rattle.object.proofs.Laws.{first_walk}
 use Rattle.svc.specs.Call.{with_objects}
 use Rattle.rows.specs.Rows.{slot_put, head_put}
 use Rattle.rows.specs.Holds.{Holds, put-slot, put-waiters, put-head}
-use Rattle.arbiter_calls.specs.declared.record.Room.{Room}
-use Rattle.arbiter_calls.specs.Record.{place_for}
+use Rattle.arbiter_calls.specs.Record.{stores, place_for}
 
 -- the records, as they are read
 pub waiters_are : (b : List ℕ) → dec_all dec_waiter 12 64 b 12416 ≡ (dec_block b).objects.waiters
@@ -35,20 +35,27 @@ waiters_are b = refl
 
 -- ---- where the record goes
 module _ (s : ObjectStore) (o t a : ℕ) where
-  pub place_other : is_arbiter (object_at s o) ≡ false → record { stores = false; last = 0 } ≡ place_for s o t a
+  pub place_other : is_arbiter (object_at s o) ≡ false → None ≡ place_for s o t a
   unfolding ◌and◌
   place_other e = rw e
 
-  module _ (e : is_arbiter (object_at s o) ≡ true) where
-    pub place-has : has? (waiter_threads s.waiters) (waiter_addresses s.waiters) t a (chain_of s o) ≡ true → record { stores = false; last = 0 } ≡ place_for s o t a
-    unfolding ◌and◌
-    place-has f = rw (e, f)
-
-    pub place-new : has? (waiter_threads s.waiters) (waiter_addresses s.waiters) t a (chain_of s o) ≡ false → (last : ℕ) → last ≡ last_of (chain_of s o) → record { stores = true; last = last } ≡ place_for s o t a
-    unfolding ◌and◌
-    place-new f last l = rw (e, f, l)
-
 -- ---- by whether one is stored
+pick_not : (t : Bool) (n : ℕ) → pick t None (Some n) ≡ pick (not t) (Some n) None
+pick_not true n = refl
+pick_not false n = refl
+
+some-pick : (t : Bool) (n : ℕ) → is_some (pick t (Some n) None) ≡ t
+some-pick true n = refl
+some-pick false n = refl
+
+pick_some : (t : Bool) (n m : ℕ) → pick t (Some n) None ≡ Some m → (t ≡ true) × (m ≡ n)
+pick_some true n m e = (refl, cc)
+pick_some false n m e = let z : ⊥ = cc in absurd z
+
+pick_none : (t : Bool) (n : ℕ) → pick t (Some n) None ≡ None → t ≡ false
+pick_none true n e = cc
+pick_none false n e = refl
+
 pub held_as : (b : List ℕ) (k : Kernel) (x y : ObjectStore) → x ≡ y → Holds b (with_objects k x) → Holds b (with_objects k y)
 held_as b k x y e g = subst (λ (z : ObjectStore). Holds b (with_objects k z)) e g
 
@@ -71,17 +78,24 @@ module _ (s : ObjectStore) (o t a : ℕ) where
   abbrev has : Bool
   has = has? (waiter_threads s.waiters) (waiter_addresses s.waiters) t a (chain_of s o)
 
-  module _ (r : Room) (p : r ≡ place_for s o t a) where
-    pub place-last : r.stores ≡ true → r.last ≡ last_of (chain_of s o)
-    place-last e = ap (λ (x : Room). x.last) p ∙ pick_yes _ _ _ (sym (ap (λ (x : Room). x.stores) p) ∙ e)
+  pub place_arbiter : arbiter ≡ true → pick has None (Some (last_of (chain_of s o))) ≡ place_for s o t a
+  unfolding ◌and◌
+  place_arbiter e = rw e (pick_not has _)
 
-    pub push_kept : r.stores ≡ false → s ≡ push s o t a
-    unfolding push
-    push_kept e = kept_as arbiter has s (pushed s o t a) (sym (ap (λ (x : Room). x.stores) p) ∙ e)
+  pub place-some : is_some (place_for s o t a) ≡ stores s o t a
+  place-some = some-pick (stores s o t a) (last_of (chain_of s o))
 
-    pub push_stored : r.stores ≡ true → pushed s o t a ≡ push s o t a
+  pub push_kept : place_for s o t a ≡ None → s ≡ push s o t a
+  unfolding push
+  push_kept e = kept_as arbiter has s (pushed s o t a) (pick_none _ _ e)
+
+  module _ (last : ℕ) (e : place_for s o t a ≡ Some last) where
+    pub place-last : last ≡ last_of (chain_of s o)
+    place-last = (pick_some (stores s o t a) _ last e).1
+
+    pub push_stored : pushed s o t a ≡ push s o t a
     unfolding push
-    push_stored e = pushed_as arbiter has s (pushed s o t a) (sym (ap (λ (x : Room). x.stores) p) ∙ e)
+    push_stored = pushed_as arbiter has s (pushed s o t a) (pick_some (stores s o t a) _ last e).0
 
 -- ---- the record in the block
 module _ (b : List ℕ) (k : Kernel) (g : Holds b k) (o t a : ℕ) where

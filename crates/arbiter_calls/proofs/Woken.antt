@@ -1,15 +1,13 @@
 -- Threads woken one by one in a block, and a signal at an address there. Assumes nothing.
 use mathlib.Core.Path.{◌≡◌, refl, sym, ap, subst, ◌∙◌}
-use mathlib.Core.Bool.{true, false}
+use mathlib.Core.Bool.{Bool, true, false}
 use mathlib.Core.List.{List, [], ◌∷◌}
-use mathlib.Core.Logic.{◌≢◌}
 use Prim.Native.Nat.{ℕ, zero, suc, ◌+◌, ◌*◌, ◌≤◌, ◌<◌}
 use native.Mathlib.Numerals.{add-one}
 use native.Mathlib.Omega.{arith}
-use lib.Dec.{eqb}
 use lib.ListN.{length, get_or, set, take, drop}
 use lib.Seq.{drop-drop}
-use borrow.Author.Tests.{eq-eqb, ne_eqb, lt-ltb}
+use borrow.Author.Tests.{lt-ltb}
 use Rattle.laws.specs.Logic.{pick}
 use Rattle.codec.specs.Bytes.{over}
 use Rattle.codec.specs.Layout.{enc_all}
@@ -36,42 +34,52 @@ use Rattle.rows.specs.Rows.{thread_put, slot_put, head_put}
 use Rattle.rows.specs.Holds.{Holds, holds, put-thread, put-slot, put-waiters, put-head}
 use Rattle.rows.specs.Sizes.{size-threads}
 use Rattle.due.proofs.Looked.{thread-is}
-use Rattle.arbiter.specs.Marks.{parked_marks, marks_after, unlink_marked, wake_marked}
+use Rattle.arbiter.specs.declared.mark.Mark.{Mark}
+use Rattle.arbiter.specs.declared.mark.Mark.TheVariants.{Elsewhere}
+use Rattle.arbiter.specs.Marks.{is_woken, parked_marks, marks_after, unlink_marked, wake_marked}
 use Rattle.arbiter.proofs.Wakes.{signal-is, signal-none}
 
 -- ---- the first i threads done; n is the number of the first
-module _ (p : List ℕ) where
+module _ (p : List Mark) where
+  abbrev wakes : ℕ → Bool
+  wakes n = is_woken (get_or p n Elsewhere)
+
+  abbrev woken_one : ℕ → Thread → Thread
+  woken_one n t = pick (wakes n) (woken_up t) t
+
   unfoldable pub woken_to : ℕ → ℕ → List Thread → List Thread
   woken_to zero n l = l
   woken_to (suc i) n [] = []
-  woken_to (suc i) n (t ∷ ts) = pick (eqb (get_or p n 0) 2) (woken_up t) t ∷ woken_to i (suc n) ts
+  woken_to (suc i) n (t ∷ ts) = woken_one n t ∷ woken_to i (suc n) ts
 
-  woken-set : (i n : ℕ) (l : List Thread) → i < length l → eqb (get_or p (i + n) 0) 2 ≡ true → set (woken_to i n l) i (woken_up (get_or l i no_thread)) ≡ woken_to (suc i) n l
+  woken-set : (i n : ℕ) (l : List Thread) → i < length l → wakes (i + n) ≡ true
+      → set (woken_to i n l) i (woken_up (get_or l i no_thread)) ≡ woken_to (suc i) n l
   unfolding woken_to
   woken-set i n [] h e = absurd (omega arith)
   woken-set zero n (t ∷ ts) h e = let z : 0 + n ≡ n = omega arith in let f = rw z at e in rw f
   woken-set (suc i) n (t ∷ ts) h e =
       let z : suc i + n ≡ i + suc n = omega arith in
-      ap (λ x. pick (eqb (get_or p n 0) 2) (woken_up t) t ∷ x) (woken-set i (suc n) ts (omega arith) (rw z at e))
+      ap (λ x. woken_one n t ∷ x) (woken-set i (suc n) ts (omega arith) (rw z at e))
 
   -- a thread that stays as it is needs no write
-  woken_skip : (i n : ℕ) (l : List Thread) → i < length l → eqb (get_or p (i + n) 0) 2 ≡ false → woken_to i n l ≡ woken_to (suc i) n l
+  woken_skip : (i n : ℕ) (l : List Thread) → i < length l → wakes (i + n) ≡ false
+      → woken_to i n l ≡ woken_to (suc i) n l
   unfolding woken_to
   woken_skip i n [] h e = absurd (omega arith)
   woken_skip zero n (t ∷ ts) h e = let z : 0 + n ≡ n = omega arith in let f = rw z at e in rw f
   woken_skip (suc i) n (t ∷ ts) h e =
       let z : suc i + n ≡ i + suc n = omega arith in
-      ap (λ x. pick (eqb (get_or p n 0) 2) (woken_up t) t ∷ x) (woken_skip i (suc n) ts (omega arith) (rw z at e))
+      ap (λ x. woken_one n t ∷ x) (woken_skip i (suc n) ts (omega arith) (rw z at e))
 
   woken-full : (i n : ℕ) (l : List Thread) → length l ≤ i → woken_to i n l ≡ wake_marked p n l
   unfolding woken_to wake_marked
   woken-full zero n [] h = refl
   woken-full zero n (t ∷ ts) h = absurd (omega arith)
   woken-full (suc i) n [] h = refl
-  woken-full (suc i) n (t ∷ ts) h = ap (λ x. pick (eqb (get_or p n 0) 2) (woken_up t) t ∷ x) (woken-full i (suc n) ts (omega arith))
+  woken-full (suc i) n (t ∷ ts) h = ap (λ x. woken_one n t ∷ x) (woken-full i (suc n) ts (omega arith))
 
 -- ---- one turn; s is the block before the first
-module _ (p : List ℕ) (s : List ℕ) where
+module _ (p : List Mark) (s : List ℕ) where
   abbrev before : List Thread
   before = (dec_block s).threads
 
@@ -102,23 +110,26 @@ module _ (p : List ℕ) (s : List ℕ) where
     add-zero-i : i + 0 ≡ i
     add-zero-i = omega arith
 
-    pub woken-next : get_or p i 0 ≢ 2 → WokenTo (i + 1) b
+    pub woken-next : is_woken (get_or p i Elsewhere) ≡ false → WokenTo (i + 1) b
     woken-next e =
         let z = add-zero-i in
-        let r : woken_to p i 0 before ≡ woken_to p (i + 1) 0 before = rw (add-one i) (woken_skip p i 0 before (omega (arith, size-threads s)) (rw z (ne_eqb (get_or p i 0) 2 e))) in
+        let r : woken_to p i 0 before ≡ woken_to p (i + 1) 0 before =
+        rw (add-one i) (woken_skip p i 0 before (omega (arith, size-threads s)) (rw z e)) in
         record { size = g.size; state = subst (λ l. Holds b (woken_state l)) r g.state; rest = rest-next }
 
     put_is : (x : Thread) → thread_put b i x ≡ over b (128 + i * 160) (enc_thread x)
     unfolding thread_put
     put_is x = rw (lt-ltb i 32 h)
 
-    pub woken-more : get_or p i 0 ≡ 2 → (t x : Thread) → t ≡ thread_at (dec_block b).threads i → x ≡ woken_up t → WokenTo (i + 1) (thread_put b i x)
+    pub woken-more : is_woken (get_or p i Elsewhere) ≡ true → (t x : Thread) → t ≡ thread_at (dec_block b).threads i
+        → x ≡ woken_up t → WokenTo (i + 1) (thread_put b i x)
     woken-more e t x et ex =
         let z = add-zero-i in
         let l = length-enc_thread x in
         let n : 128 + i * 160 + length (enc_thread x) ≤ length b = omega (arith, l, g.size) in
         let f : x ≡ woken_up (get_or before i no_thread) = ex ∙ ap woken_up (et ∙ old-is) in
-        let w : set (woken_to p i 0 before) i x ≡ woken_to p (i + 1) 0 before = rw (add-one i, f) (woken-set p i 0 before (omega (arith, size-threads s)) (rw z (eq-eqb (get_or p i 0) 2 e))) in
+        let w : set (woken_to p i 0 before) i x ≡ woken_to p (i + 1) 0 before =
+        rw (add-one i, f) (woken-set p i 0 before (omega (arith, size-threads s)) (rw z e)) in
         let q : 128 + i * 160 + length (enc_thread x) + 0 ≡ 128 + (i + 1) * 160 = omega (arith, l) in
         let v = put_is x in
         record {
@@ -138,20 +149,22 @@ module _ (b e : List ℕ) (o a value : ℕ) where
   abbrev s : ObjectStore
   s = k.objects
 
-  abbrev pub marks : List ℕ
+  abbrev pub marks : List Mark
   marks = marks_after s.waiters a value (parked_marks k.threads a) 0 (chain_of s o)
 
-  abbrev pub links : Links
-  links = unlink_marked s.waiters a value (parked_marks k.threads a) 0 s.free_waiter (chain_of s o)
+  abbrev pub unlinked : Links
+  unlinked = unlink_marked s.waiters a value (parked_marks k.threads a) 0 s.free_waiter (chain_of s o)
 
   pub unsignaled : sound? b ≡ true → head_of (object_at s o) ≡ 0 → Holds b (signal_address k o a value)
   unsignaled f n = subst (Holds b) (signal-none k o a value n) (holds b f)
 
-  pub signaled : (h : Head) → h ≡ head_words k → (x : Slot) → x ≡ slot_at s.slots o → (u : Links) → u ≡ links → length u.waiters ≡ 64
+  pub signaled : (h : Head) → h ≡ head_words k → (x : Slot) → x ≡ slot_at s.slots o → (u : Links) → u ≡ unlinked
+      → length u.waiters ≡ 64
       → Holds e (with_threads k (wake_marked marks 0 k.threads) s)
       → Holds (head_put (slot_put (over e 12416 (enc_all enc_waiter u.waiters)) o (with_object x (with_head x.object u.head))) (record { a = h.a; b = h.b; c = four h.c.0 u.free h.c.2 h.c.3; d = h.d })) (signal_address k o a value)
   signaled h eh x ex u eu n g =
-      let m : length links.waiters ≡ 64 = ap (λ (z : Links). length z.waiters) (sym eu) ∙ n in
+      let m : length unlinked.waiters ≡ 64 = ap (λ (z : Links). length z.waiters) (sym eu) ∙ n in
       subst (Holds _) (signal-is k o a value)
       (rw (eh, ex, eu)
-      (put-head (put-slot (put-waiters g links.waiters m) o _) (with_threads k (wake_marked marks 0 k.threads) (relinked s o links)) refl refl refl refl refl))
+      (put-head (put-slot (put-waiters g unlinked.waiters m) o _)
+      (with_threads k (wake_marked marks 0 k.threads) (relinked s o unlinked)) refl refl refl refl refl))

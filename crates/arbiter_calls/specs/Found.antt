@@ -1,8 +1,6 @@
 -- What is found if the current thread parks at the address a through the handle h. Assumes nothing.
-use Rattle.std.specs.Prelude.{Bool, false, not, ℕ, eqb}
+use Rattle.std.specs.Prelude.{Bool, false, not, ℕ, eqb, Option, Some, None}
 use Rattle.laws.specs.Logic.{◌and◌, ◌or◌}
-use Rattle.types.specs.declared.thread.ThreadOption.{ThreadOption}
-use Rattle.types.specs.declared.thread.ThreadOption.TheVariants.{NoThread, SomeThread}
 use Rattle.types.specs.declared.object.ObjectStore.{ObjectStore}
 use Rattle.types.specs.declared.kernel.Kernel.{Kernel}
 use Rattle.pass.specs.Asks.{open_object}
@@ -13,12 +11,12 @@ use Rattle.objects.specs.Open.{no_room}
 use Rattle.arbiter_calls.specs.Record.{stores}
 
 -- without a current thread nobody parks
-abbrev pub stores_as : ObjectStore → ThreadOption → ℕ → ℕ → Bool
-stores_as s NoThread o a = false
-stores_as s (SomeThread t) o a = stores s o t a
+abbrev pub stores_as : ObjectStore → Option ℕ → ℕ → ℕ → Bool
+stores_as s None o a = false
+stores_as s (Some t) o a = stores s o t a
 
 -- a record is to be stored, and none is free
-abbrev pub lacks : ObjectStore → ThreadOption → ℕ → ℕ → Bool
+abbrev pub lacks : ObjectStore → Option ℕ → ℕ → ℕ → Bool
 lacks s c o a = stores_as s c o a and eqb s.free_waiter 0
 
 -- a pseudo-handle names no arbiter

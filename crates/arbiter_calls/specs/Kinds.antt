@@ -1,13 +1,11 @@
 -- `arbitrate_address` by what its kind does, once the handle is open: k is the state then, o the object. Assumes nothing.
-use Rattle.std.specs.Prelude.{Bool, ℕ, eqb, ltb}
+use Rattle.units.specs.declared.Ticks.{Ticks}
+use Rattle.std.specs.Prelude.{Bool, ℕ, eqb, ltb, Option, Some, None}
 use Rattle.laws.specs.Logic.{pick}
 use Rattle.types.specs.declared.sync.ArbitrationType.{ArbitrationType}
-use Rattle.types.specs.declared.thread.TickOption.{TickOption}
 use Rattle.types.specs.declared.kernel.Kernel.{Kernel}
 use Rattle.object.specs.declared.kept.Resolved.{Resolved}
 use Rattle.svc.specs.declared.Registers.{Registers}
-use Rattle.svc.specs.declared.WordOption.{WordOption}
-use Rattle.svc.specs.declared.WordOption.TheVariants.{NoWord, SomeWord}
 use Rattle.svc.specs.declared.Served.{Served}
 use Rattle.svc.specs.Call.{done, answers, with_objects, with_over, pair, resolved}
 use Rattle.svc.specs.Sync.{biased}
@@ -18,14 +16,14 @@ abbrev pub signals : ℕ → ℕ → Kernel → ℕ → Served
 signals a value k o = done (signal_address k o a value)
 
 -- over says that a sum of the call does not fit
-abbrev pub parks : ℕ → TickOption → ℕ → Bool → WordOption → Kernel → ℕ → Served
-parks a time tick over word k o = record { kernel = with_over (park k o a time tick) over; answer = 0; r0 = SomeWord 0; r1 = NoWord; word = word }
+abbrev pub parks : ℕ → Option Ticks → ℕ → Bool → Option ℕ → Kernel → ℕ → Served
+parks a time tick over word k o = record { kernel = with_over (park k o a time tick) over; answer = 0; r0 = Some 0; r1 = None; word = word }
 
 -- the word is not less than the value
 abbrev pub goes_on : Kernel → ℕ → Served
 goes_on k o = done k
 
-abbrev pub waits : Bool → TickOption → ℕ → ℕ → ℕ → ℕ → Kernel → ℕ → Served
+abbrev pub waits : Bool → Option Ticks → ℕ → ℕ → ℕ → ℕ → Kernel → ℕ → Served
 waits decrements time a value word tick k o =
     pick (ltb (biased word) (biased value)) (parks a time tick (over_below decrements word) (word_after decrements word) k o) (goes_on k o)
 

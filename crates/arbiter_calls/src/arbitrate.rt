@@ -1,5 +1,5 @@
 // `arbitrate_address` (svc.rs).
-ghost use Rattle.std.specs.Prelude.{◌≡◌, true, length, get_or, take};
+ghost use Rattle.std.specs.Prelude.{◌≡◌, true, get_or, take};
 ghost use Rattle.block.specs.Block.{dec_block};
 ghost use Rattle.sound.specs.Question.{sound?};
 ghost use Rattle.svc.specs.Call as call;
@@ -9,11 +9,13 @@ ghost use Rattle.arbiter_calls.specs.Kinds.{on_handle, goes_on, signals, waits, 
 
 use crate::{park, wake};
 use arbiter::kind;
+use block::Block;
 use objects::open;
-use outcome::Outcome;
+use outcome::{Answer, Outcome};
 use svc::Registers;
-use types::sync::{ArbitrationOption, ArbitrationType};
-use types::thread::{TickOption, WAIT_LIST};
+use types::refusal::Refusal;
+use types::sync::ArbitrationType;
+use types::thread::WAIT_LIST;
 use units::{Handle, Ticks};
 
 // The word at the address, 0 for a call that reads none.
@@ -27,67 +29,54 @@ fn first_word(words: [u32; WAIT_LIST], n: u32) -> u32
 }
 
 // An unknown kind makes no object.
-fn no_kind(block: &[u8]) -> Outcome
-    requires block_len { length block.now ≡ 16384 }
+fn no_kind(block: &Block) -> Result<Outcome, Refusal>
     requires block_value { sound? block.now ≡ true }
     ensures value { result ≡ outcome (call.answers 18 (dec_block block.now)) }
     ensures block_value_2 { block.now ≡ left (call.answers 18 (dec_block block.now)) block.now }
 {
-    if outcome::out_of_handles(block) {
-        return outcome::refused(8);
-    }
-    outcome::answers(18)
+    outcome::room(false, outcome::out_of_handles(block))?;
+    Ok(outcome::answers(Answer::UnknownKind))
 }
 
 // Threads parked at the address wake.
-fn signal(block: &mut [u8], h: Handle, a: u32, value: u32) -> Outcome
-    requires block_len { length block.old ≡ 16384 }
+fn signal(block: &mut Block, h: Handle, a: u32, value: u32) -> Result<Outcome, Refusal>
     requires block_value { sound? block.old ≡ true }
     ensures value { result ≡ outcome (on_handle (dec_block block.old) h.0 (signals a value)) }
     ensures block_after { block.new ≡ left (on_handle (dec_block block.old) h.0 (signals a value)) block.old }
 {
-    let x = open::resolve(block, h);
-    if x.found != 0 {
-        return outcome::refused(x.found);
-    }
-    let o = x.object;
+    let o = open::resolve(block, h)?;
     if o.0 == 0 {
-        return outcome::answers(16);
+        return Ok(outcome::answers(Answer::UnknownHandle));
     }
     wake::signal_address(block, o, a, value);
-    outcome::done()
+    Ok(outcome::done())
 }
 
-// The word is not less than the value: the thread goes on.
-fn go_on(block: &mut [u8], h: Handle) -> Outcome
-    requires block_len { length block.old ≡ 16384 }
+// The word is not less than the value: the thread goes on. `signal` opens the handle alike; a closure for the one step
+// between would be longer, with what it does to the block in its contract.
+fn go_on(block: &mut Block, h: Handle) -> Result<Outcome, Refusal>
     requires block_value { sound? block.old ≡ true }
     ensures value { result ≡ outcome (on_handle (dec_block block.old) h.0 goes_on) }
     ensures block_after { block.new ≡ left (on_handle (dec_block block.old) h.0 goes_on) block.old }
 {
-    let x = open::resolve(block, h);
-    if x.found != 0 {
-        return outcome::refused(x.found);
-    }
-    let o = x.object;
+    let o = open::resolve(block, h)?;
     if o.0 == 0 {
-        return outcome::answers(16);
+        return Ok(outcome::answers(Answer::UnknownHandle));
     }
-    outcome::done()
+    Ok(outcome::done())
 }
 
 // The current thread parks if the word is less than the value.
 fn wait_below(
-    block: &mut [u8],
+    block: &mut Block,
     h: Handle,
     decrements: bool,
-    time: TickOption,
+    time: Option<Ticks>,
     a: u32,
     value: u32,
     word: u32,
     tick: Ticks,
-) -> Outcome
-    requires block_len { length block.old ≡ 16384 }
+) -> Result<Outcome, Refusal>
     requires block_value { sound? block.old ≡ true }
     ensures value { result ≡ outcome (on_handle (dec_block block.old) h.0 (waits decrements time a value word tick.0)) }
     ensures block_after { block.new ≡ left (on_handle (dec_block block.old) h.0 (waits decrements time a value word tick.0)) block.old }
@@ -102,13 +91,12 @@ fn wait_below(
 
 // A kind that waits.
 fn wait_kind(
-    block: &mut [u8],
+    block: &mut Block,
     kind: ArbitrationType,
     r: Registers,
     word: u32,
     tick: Ticks,
-) -> Outcome
-    requires block_len { length block.old ≡ 16384 }
+) -> Result<Outcome, Refusal>
     requires block_value { sound? block.old ≡ true }
     ensures value { result ≡ outcome (on_handle (dec_block block.old) r.r0 (waits_as kind r word tick.0)) }
     ensures block_after { block.new ≡ left (on_handle (dec_block block.old) r.r0 (waits_as kind r word tick.0)) block.old }
@@ -129,47 +117,37 @@ fn wait_kind(
 
 // A known kind. What it calls opens the handle.
 fn arbitrate_for(
-    block: &mut [u8],
+    block: &mut Block,
     kind: ArbitrationType,
     r: Registers,
     word: u32,
     tick: Ticks,
-) -> Outcome
-    requires block_len { length block.old ≡ 16384 }
+) -> Result<Outcome, Refusal>
     requires block_value { sound? block.old ≡ true }
     ensures value { result ≡ outcome (def.arbitrate_for kind (dec_block block.old) (call.resolved (dec_block block.old) r.r0) r word tick.0) }
     ensures block_after { block.new ≡ left (def.arbitrate_for kind (dec_block block.old) (call.resolved (dec_block block.old) r.r0) r word tick.0) block.old }
 {
     match kind {
         ArbitrationType::Signal => signal(block, Handle(r.r0), r.r1, r.r3),
-        ArbitrationType::WaitIfLessThan => wait_kind(block, kind, r, word, tick),
-        ArbitrationType::DecrementAndWaitIfLessThan => wait_kind(block, kind, r, word, tick),
-        ArbitrationType::WaitIfLessThanWithTimeout => wait_kind(block, kind, r, word, tick),
-        ArbitrationType::DecrementAndWaitIfLessThanWithTimeout => wait_kind(
-            block, kind, r, word, tick,
-        ),
+        _ => wait_kind(block, kind, r, word, tick),
     }
 }
 
 // r0 handle, r1 address, r2 kind, r3 value, r4 and r5 nanoseconds; the word at the address is the first of the n words,
 // for the kinds that wait.
 pub fn arbitrate_address(
-    block: &mut [u8],
+    block: &mut Block,
     r: Registers,
     words: [u32; WAIT_LIST],
     n: u32,
     tick: Ticks,
-) -> Outcome
-    requires block_len { length block.old ≡ 16384 }
+) -> Result<Outcome, Refusal>
     requires block_value { sound? block.old ≡ true }
     ensures value { result ≡ outcome (def.arbitrate_address (dec_block block.old) r (get_or (take n words) 0 0) tick.0) }
     ensures block_after { block.new ≡ left (def.arbitrate_address (dec_block block.old) r (get_or (take n words) 0 0) tick.0) block.old }
 {
-    let named = kind::from_raw(r.r2);
-    match named {
-        ArbitrationOption::NoArbitration => no_kind(block),
-        ArbitrationOption::SomeArbitration(kind) => {
-            arbitrate_for(block, kind, r, first_word(words, n), tick)
-        }
+    match kind::from_raw(r.r2) {
+        None => no_kind(block),
+        Some(kind) => arbitrate_for(block, kind, r, first_word(words, n), tick),
     }
 }

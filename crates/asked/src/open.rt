@@ -1,14 +1,14 @@
 // Handles that are looked up and nothing else.
-ghost use Rattle.std.specs.Prelude.{◌≡◌, length};
+ghost use Rattle.std.specs.Prelude.{◌≡◌};
 ghost use Rattle.block.specs.Block.{dec_block};
 ghost use Rattle.pass.specs.Asks.{open_object};
 
+use block::Block;
 use rows::read;
 use units::{Handle, ObjectId};
 
 // The object that a handle names, 0 if it names none; a pseudo-handle counts as none.
-pub fn open_object(b: &[u8], h: Handle) -> ObjectId
-    requires { length b.now ≡ 16384 }
+pub fn open_object(b: &Block, h: Handle) -> ObjectId
     ensures { result.0 ≡ open_object (dec_block b.now) h.0 }
 {
     if svc::read::is_pseudo(h) {

@@ -19,7 +19,7 @@ use Rattle.types.specs.declared.object.Slot.{Slot}
 use Rattle.types.specs.declared.object.HandleEntry.{HandleEntry}
 use Rattle.types.specs.declared.object.Waiter.{Waiter}
 use Rattle.types.specs.declared.kernel.Kernel.{Kernel}
-use Rattle.types.specs.Thread.{wait_list, thread_option}
+use Rattle.types.specs.Thread.{wait_list, option_of}
 use Rattle.block.specs.declared.thread.ThreadWords.{ThreadWords}
 use Rattle.block.specs.declared.slot.ObjectWords.{ObjectWords}
 use Rattle.block.specs.declared.Head.{Head}
@@ -29,7 +29,7 @@ use Rattle.block.specs.Slot.{words, slot_w, slot_fields, slot_of, enc_slot, dec_
 use Rattle.block.specs.Block.{head_words, head_list, head_w, enc_head, enc_block, kernel_of, dec_block}
 use Rattle.block.proofs.Row.{length-all}
 use Rattle.block.proofs.Sizes.{length-enc_id, enc_ids-all, length-enc_entry, length-enc_waiter, length-enc_slot, length-enc_thread, length-enc_head}
-use Rattle.block.proofs.Enums.{thread-option-back, thread-flag-fits, thread_value_fits, tick-option-back, tick-flag-fits, tick_value_fits, address-option-back, address-flag-fits, address_value_fits, status-back, status-fits, result-back, result_fits, result-index-fits, syscall_back, syscall_fits, object-back, object-fits}
+use Rattle.block.proofs.Enums.{option-back, option-flag-fits, option_value_fits, tick-option-back, tick_value_fits, status-back, status-fits, result-back, result_fits, result-index-fits, syscall_back, syscall_fits, object-back, object-fits}
 
 -- ---- object numbers
 abbrev pub IdFits : ObjectId → Type 0
@@ -158,7 +158,7 @@ thread_again x = λ i. record {
   wakeup_at = tick-option-back x.wakeup_at i;
   running_since = x.running_since;
   waited = flag-back x.waited i;
-  wait_address = address-option-back x.wait_address i;
+  wait_address = option-back x.wait_address i;
   wait_result = result-back x.wait_result i;
   wait_syscall = syscall_back x.wait_syscall i;
   guest_id = x.guest_id;
@@ -193,9 +193,9 @@ thread-fits s b =
           & v 6
           & flag-fits (dec_thread s).wait_all
           & flag-fits (dec_thread s).waited
-          & tick-flag-fits (dec_thread s).wakeup_at
-          & address-flag-fits (dec_thread s).wait_address
-          & address_value_fits (le 4 s 40) (le 4 s 44) (v 11)
+          & option-flag-fits (dec_thread s).wakeup_at
+          & option-flag-fits (dec_thread s).wait_address
+          & option_value_fits (le 4 s 40) (le 4 s 44) (v 11)
           & result_fits (dec_thread s).wait_result
           & result-index-fits (le 4 s 48) (le 4 s 52) (v 13)
           & syscall_fits (dec_thread s).wait_syscall
@@ -257,7 +257,7 @@ kernel_again k f = λ i. record {
   handles = record { entries = k.handles.entries; count = k.handles.count; next = k.handles.next; full = sym f.4 i; overflow = sym f.5 i };
   threads = k.threads;
   thread_count = k.thread_count;
-  current_thread = thread-option-back k.current_thread i;
+  current_thread = option-back k.current_thread i;
   next_tls_slot = k.next_tls_slot;
   next_guest_id = k.next_guest_id;
   all_blocked = flag-back k.all_blocked i;
@@ -322,9 +322,9 @@ unfolding dec_block dec_as
 block-fits b h =
     let v = fit_at head_w (dec_as head_w b 0) (fit_dec head_w b 0 h) in
     let z : 0 < 256 ^ 4 = omega arith in
-    let current = thread_option (le 4 b 8) (le 4 b 12) in
+    let current = option_of (le 4 b 8) (le 4 b 12) in
     record {
-      head = v 0 & v 1 & thread-flag-fits current & thread_value_fits (le 4 b 8) (le 4 b 12) (v 3) & v 4 & v 5 & flag-fits (eqb (le 4 b 24) 1) & flag-fits (eqb (le 4 b 28) 1) & v 8 & v 9 & v 10 & v 11 & v 12 & z & z & z & tt;
+      head = v 0 & v 1 & option-flag-fits current & option_value_fits (le 4 b 8) (le 4 b 12) (v 3) & v 4 & v 5 & flag-fits (eqb (le 4 b 24) 1) & flag-fits (eqb (le 4 b 28) 1) & v 8 & v 9 & v 10 & v 11 & v 12 & z & z & z & tt;
       nt = length-dec_all dec_thread 160 32 b 128;
       threads = all_dec ThreadFits dec_thread 160 32 b 128 thread-fits h;
       ns = length-dec_all dec_slot 40 128 b 5248;

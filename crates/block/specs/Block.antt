@@ -9,7 +9,7 @@ use Rattle.types.specs.declared.object.Slot.{Slot}
 use Rattle.types.specs.declared.object.HandleEntry.{HandleEntry}
 use Rattle.types.specs.declared.object.Waiter.{Waiter}
 use Rattle.types.specs.declared.kernel.Kernel.{Kernel}
-use Rattle.types.specs.Thread.{thread_flag, thread_value, thread_option}
+use Rattle.types.specs.Thread.{option_flag, option_value, option_of}
 use Rattle.block.specs.declared.Head.{Head}
 use Rattle.block.specs.Table.{enc_entry, dec_entry, enc_waiter, dec_waiter, enc_id, dec_id}
 use Rattle.block.specs.Thread.{four, enc_thread, dec_thread}
@@ -17,7 +17,7 @@ use Rattle.block.specs.Slot.{enc_slot, dec_slot}
 
 abbrev pub head_words : Kernel → Head
 head_words k = record {
-  a = four k.status_word k.thread_count (thread_flag k.current_thread) (thread_value k.current_thread);
+  a = four k.status_word k.thread_count (option_flag k.current_thread) (option_value k.current_thread);
   b = four k.next_tls_slot k.next_guest_id (bool_byte k.all_blocked) (bool_byte k.relief);
   c = four k.objects.free k.objects.free_waiter k.handles.count k.handles.next.0;
   d = four k.objects.process_object.0 0 0 0;
@@ -53,7 +53,7 @@ kernel_of vs ts ss es ws os = record {
   handles = record { entries = es; count = get_or vs 10 0; next = record { 0 = get_or vs 11 0 }; full = false; overflow = false };
   threads = ts;
   thread_count = get_or vs 1 0;
-  current_thread = thread_option (get_or vs 2 0) (get_or vs 3 0);
+  current_thread = option_of (get_or vs 2 0) (get_or vs 3 0);
   next_tls_slot = get_or vs 4 0;
   next_guest_id = get_or vs 5 0;
   all_blocked = eqb (get_or vs 6 0) 1;

@@ -5,3 +5,4 @@ pub mod Slot
 pub mod Block
 pub mod Context
 pub mod Tables
+pub mod Sizes

@@ -10,7 +10,7 @@ use Rattle.types.specs.declared.object.Slot.{Slot}
 use Rattle.types.specs.declared.sync.Event as ev
 use Rattle.types.specs.declared.sync.Mutex as mu
 use Rattle.types.specs.declared.sync.Timer as ti
-use Rattle.types.specs.Thread.{thread_flag, thread_value, thread_option, tick_flag, tick_value, tick_option}
+use Rattle.types.specs.Thread.{option_flag, option_value, option_of, tick_value, tick_option}
 use Rattle.types.specs.Sync.{reset_number, reset_from_raw}
 use Rattle.block.specs.declared.slot.ObjectWords.{ObjectWords}
 
@@ -21,10 +21,10 @@ abbrev pub event_words : ev.Event → ObjectWords
 event_words e = words 2 (reset_number e.reset_type) (bool_byte e.signaled) 0 0 0
 
 abbrev pub mutex_words : mu.Mutex → ObjectWords
-mutex_words m = words 3 (thread_flag m.owner) (thread_value m.owner) m.lock_count 0 0
+mutex_words m = words 3 (option_flag m.owner) (option_value m.owner) m.lock_count 0 0
 
 abbrev pub timer_words : ti.Timer → ObjectWords
-timer_words t = words 5 (reset_number t.reset_type) (bool_byte t.signaled) (tick_flag t.fire_at) (tick_value t.fire_at) t.interval.0
+timer_words t = words 5 (reset_number t.reset_type) (bool_byte t.signaled) (option_flag t.fire_at) (tick_value t.fire_at) t.interval.0
 
 -- what a kind does not have is 0
 abbrev pub object_words : KObject → ObjectWords
@@ -42,7 +42,7 @@ abbrev pub event_of : ObjectWords → ev.Event
 event_of w = record { reset_type = reset_from_raw w.a; signaled = eqb w.b 1 }
 
 abbrev pub mutex_of : ObjectWords → mu.Mutex
-mutex_of w = record { owner = thread_option w.a w.b; lock_count = w.c }
+mutex_of w = record { owner = option_of w.a w.b; lock_count = w.c }
 
 abbrev pub timer_of : ObjectWords → ti.Timer
 timer_of w = record { reset_type = reset_from_raw w.a; signaled = eqb w.b 1; fire_at = tick_option w.c w.x; interval = record { 0 = w.y } }

@@ -7,7 +7,7 @@ use Rattle.codec.specs.Groups.{four_bytes}
 use Rattle.codec.specs.declared.Four.{Four}
 use Rattle.units.specs.declared.ObjectId.{ObjectId}
 use Rattle.types.specs.declared.thread.Thread.{Thread}
-use Rattle.types.specs.Thread.{wait_list, status_number, status_of, tick_flag, tick_value, tick_option, address_flag, address_value, address_option, result_number, result_index, result_of, syscall_number, syscall_of}
+use Rattle.types.specs.Thread.{wait_list, status_number, status_of, option_flag, tick_value, tick_option, option_value, option_of, result_number, result_index, result_of, syscall_number, syscall_of}
 use Rattle.block.specs.declared.thread.ThreadWords.{ThreadWords}
 use Rattle.block.specs.Table.{enc_ids, dec_id}
 
@@ -19,7 +19,7 @@ abbrev pub thread_words : Thread → ThreadWords
 thread_words x = record {
   a = four (status_number x.status) x.priority x.entry x.stack_top;
   b = four x.tls x.processor_id x.wait_count (bool_byte x.wait_all);
-  c = four (bool_byte x.waited) (tick_flag x.wakeup_at) (address_flag x.wait_address) (address_value x.wait_address);
+  c = four (bool_byte x.waited) (option_flag x.wakeup_at) (option_flag x.wait_address) (option_value x.wait_address);
   d = four (result_number x.wait_result) (result_index x.wait_result) (syscall_number x.wait_syscall) x.guest_id;
   wakeup_at = tick_value x.wakeup_at;
   running_since = x.running_since.0;
@@ -48,7 +48,7 @@ thread_of vs l = record {
   wakeup_at = tick_option (get_or vs 9 0) (get_or vs 16 0);
   running_since = record { 0 = get_or vs 17 0 };
   waited = eqb (get_or vs 8 0) 1;
-  wait_address = address_option (get_or vs 10 0) (get_or vs 11 0);
+  wait_address = option_of (get_or vs 10 0) (get_or vs 11 0);
   wait_result = result_of (get_or vs 12 0) (get_or vs 13 0);
   wait_syscall = syscall_of (get_or vs 14 0);
   guest_id = get_or vs 15 0;

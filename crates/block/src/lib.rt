@@ -13,7 +13,11 @@ ghost use Rattle.block.specs.Block.{head_words, head_at, enc_head, enc_block};
 use codec::Four;
 use types::kernel::Kernel;
 
-// The sixteen words of the head.
+// The state as the host lends it. That it is sound stays a clause: between the steps of a call it is not, and C lends
+// bare bytes, which a struct with that invariant would have to copy.
+pub type Block = [u8; 16384];
+
+// The sixteen words of the head, in groups and unnamed, as the definitions of specs/ cite them.
 #[derive(Clone, Copy)]
 pub struct Head {
     pub a: Four,
@@ -25,17 +29,12 @@ pub struct Head {
 pub fn head_words(k: Kernel) -> Head
     ensures { result ≡ head_words k }
 {
-    let current = k.current_thread;
-    let o = k.objects;
-    let h = k.handles;
-    let next = h.next;
-    let process = o.process_object;
     Head {
         a: Four(
             k.status_word,
             k.thread_count,
-            types::thread::thread_flag(current),
-            types::thread::thread_value(current),
+            types::thread::option_flag(k.current_thread),
+            types::thread::option_value(k.current_thread),
         ),
         b: Four(
             k.next_tls_slot,
@@ -43,8 +42,13 @@ pub fn head_words(k: Kernel) -> Head
             k.all_blocked as u32,
             k.relief as u32,
         ),
-        c: Four(o.free, o.free_waiter, h.count, next.0),
-        d: Four(process.0, 0, 0, 0),
+        c: Four(
+            k.objects.free,
+            k.objects.free_waiter,
+            k.handles.count,
+            k.handles.next.0,
+        ),
+        d: Four(k.objects.process_object.0, 0, 0, 0),
     }
 }
 
@@ -52,42 +56,34 @@ pub fn put_head(b: &mut [u8], h: Head)
     requires { length b.old ≡ 128 }
     ensures { b.new ≡ enc_head h }
 {
-    let p = h.a;
-    let q = h.b;
-    let r = h.c;
-    let t = h.d;
-    codec::put_four(b, 0, p);
-    codec::put_four(b, 16, q);
-    codec::put_four(b, 32, r);
-    codec::put_four(b, 48, t);
+    codec::put_four(b, 0, h.a);
+    codec::put_four(b, 16, h.b);
+    codec::put_four(b, 32, h.c);
+    codec::put_four(b, 48, h.d);
     codec::put_zeros(b, 64, 64);
 }
 
 // The state over all of a block. Every table is taken out before the first write: the compiler cannot tell that k lies
 // outside b, and would otherwise copy the tables twice.
-pub fn encode(b: &mut [u8], k: Kernel)
-    requires { length b.old ≡ 16384 }
+pub fn encode(b: &mut Block, k: Kernel)
     ensures { b.new ≡ enc_block k }
 {
     let head = head_words(k);
     let threads = k.threads;
-    let o = k.objects;
-    let slots = o.slots;
-    let waiters = o.waiters;
-    let ids = o.thread_objects;
-    let h = k.handles;
-    let entries = h.entries;
+    let slots = k.objects.slots;
+    let entries = k.handles.entries;
+    let waiters = k.objects.waiters;
+    let ids = k.objects.thread_objects;
     put_head(&mut b[0..128], head);
-    thread::put_threads(b, 128, threads);
-    slot::put_slots(b, 5248, slots);
-    table::put_entries(b, 10368, entries);
-    table::put_waiters(b, 12416, waiters);
-    table::put_ids32(b, 13184, ids);
+    record::write_all(b, 128, &threads);
+    record::write_all(b, 5248, &slots);
+    record::write_all(b, 10368, &entries);
+    record::write_all(b, 12416, &waiters);
+    record::write_all(b, 13184, &ids);
     codec::put_zeros(b, 13312, 3072);
 }
 
-pub fn get_head(b: &[u8]) -> Head
-    requires { length b.now ≡ 16384 }
+pub fn get_head(b: &Block) -> Head
     ensures { result ≡ head_at b.now }
 {
     Head {

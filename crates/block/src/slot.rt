@@ -1,12 +1,13 @@
 // An object slot as 40 bytes.
-ghost use Rattle.std.specs.Prelude.{◌≡◌, ◌+◌, ◌≤◌, length};
-ghost use Rattle.codec.specs.Bytes.{over};
-ghost use Rattle.codec.specs.Layout.{dec_as, enc_all};
+ghost use Rattle.std.specs.Prelude.{◌≡◌, length};
+ghost use Rattle.codec.specs.Layout.{dec_as};
 ghost use Rattle.block.specs.Slot.{event_words, mutex_words, timer_words, event_of, mutex_of, timer_of, object_words, object_of, slot_w, slot_words, enc_slot, dec_slot};
+ghost use Rattle.block.specs.Sizes.{length-enc_slot};
 
+use crate::record::Record;
 use codec::{Four, Two};
 use types::object::{KObject, Slot};
-use types::sync::{AddressArbiter, Event, Mutex, Semaphore, Timer};
+use types::sync::{AddressArbiter, Event, Mutex, ResetType, Semaphore, Timer};
 use units::Ticks;
 
 // An object as numbers, in the order of the block.
@@ -20,47 +21,49 @@ pub struct ObjectWords {
     pub y: u64,
 }
 
+// What a kind does not have is 0.
+const NONE: ObjectWords = ObjectWords {
+    kind: 0,
+    a: 0,
+    b: 0,
+    c: 0,
+    x: 0,
+    y: 0,
+};
+
 fn event_words(e: Event) -> ObjectWords
     ensures { result ≡ event_words e }
 {
-    let reset = e.reset_type;
     ObjectWords {
         kind: 2,
-        a: types::sync::reset_number(reset),
+        a: u32::from(e.reset_type),
         b: e.signaled as u32,
-        c: 0,
-        x: 0,
-        y: 0,
+        ..NONE
     }
 }
 
 fn mutex_words(m: Mutex) -> ObjectWords
     ensures { result ≡ mutex_words m }
 {
-    let owner = m.owner;
     ObjectWords {
         kind: 3,
-        a: types::thread::thread_flag(owner),
-        b: types::thread::thread_value(owner),
+        a: types::thread::option_flag(m.owner),
+        b: types::thread::option_value(m.owner),
         c: m.lock_count,
-        x: 0,
-        y: 0,
+        ..NONE
     }
 }
 
 fn timer_words(t: Timer) -> ObjectWords
     ensures { result ≡ timer_words t }
 {
-    let reset = t.reset_type;
-    let due = t.fire_at;
-    let interval = t.interval;
     ObjectWords {
         kind: 5,
-        a: types::sync::reset_number(reset),
+        a: u32::from(t.reset_type),
         b: t.signaled as u32,
-        c: types::thread::tick_flag(due),
-        x: types::thread::tick_value(due),
-        y: interval.0,
+        c: types::thread::option_flag(t.fire_at),
+        x: types::thread::tick_value(t.fire_at),
+        y: t.interval.0,
     }
 }
 
@@ -68,21 +71,11 @@ pub fn object_words(o: KObject) -> ObjectWords
     ensures { result ≡ object_words o }
 {
     match o {
-        KObject::Free(next) => ObjectWords {
-            kind: 0,
-            a: next,
-            b: 0,
-            c: 0,
-            x: 0,
-            y: 0,
-        },
+        KObject::Free(next) => ObjectWords { a: next, ..NONE },
         KObject::Thread(t) => ObjectWords {
             kind: 1,
             a: t,
-            b: 0,
-            c: 0,
-            x: 0,
-            y: 0,
+            ..NONE
         },
         KObject::Event(e) => event_words(e),
         KObject::Mutex(m) => mutex_words(m),
@@ -90,44 +83,24 @@ pub fn object_words(o: KObject) -> ObjectWords
             kind: 4,
             a: s.count,
             b: s.max_count,
-            c: 0,
-            x: 0,
-            y: 0,
+            ..NONE
         },
         KObject::Timer(t) => timer_words(t),
         KObject::AddressArbiter(a) => ObjectWords {
             kind: 6,
             a: a.waiters,
-            b: 0,
-            c: 0,
-            x: 0,
-            y: 0,
+            ..NONE
         },
-        KObject::Process => ObjectWords {
-            kind: 7,
-            a: 0,
-            b: 0,
-            c: 0,
-            x: 0,
-            y: 0,
-        },
-        KObject::ResourceLimit => ObjectWords {
-            kind: 8,
-            a: 0,
-            b: 0,
-            c: 0,
-            x: 0,
-            y: 0,
-        },
+        KObject::Process => ObjectWords { kind: 7, ..NONE },
+        KObject::ResourceLimit => ObjectWords { kind: 8, ..NONE },
     }
 }
 
 fn event_of(w: ObjectWords) -> Event
     ensures { result ≡ event_of w }
 {
-    let reset = types::sync::reset_from_raw(w.a);
     Event {
-        reset_type: reset,
+        reset_type: ResetType::from(w.a),
         signaled: w.b == 1,
     }
 }
@@ -135,9 +108,8 @@ fn event_of(w: ObjectWords) -> Event
 fn mutex_of(w: ObjectWords) -> Mutex
     ensures { result ≡ mutex_of w }
 {
-    let owner = types::thread::thread_option(w.a, w.b);
     Mutex {
-        owner: owner,
+        owner: types::thread::option_of(w.a, w.b),
         lock_count: w.c,
     }
 }
@@ -145,12 +117,10 @@ fn mutex_of(w: ObjectWords) -> Mutex
 fn timer_of(w: ObjectWords) -> Timer
     ensures { result ≡ timer_of w }
 {
-    let reset = types::sync::reset_from_raw(w.a);
-    let due = types::thread::tick_option(w.c, w.x);
     Timer {
-        reset_type: reset,
+        reset_type: ResetType::from(w.a),
         signaled: w.b == 1,
-        fire_at: due,
+        fire_at: types::thread::tick_option(w.c, w.x),
         interval: Ticks(w.y),
     }
 }
@@ -159,8 +129,7 @@ fn timer_of(w: ObjectWords) -> Timer
 pub fn object_of(w: ObjectWords) -> KObject
     ensures { result ≡ object_of w }
 {
-    let kind = w.kind;
-    match kind {
+    match w.kind {
         1 => KObject::Thread(w.a),
         2 => KObject::Event(event_of(w)),
         3 => KObject::Mutex(mutex_of(w)),
@@ -177,6 +146,7 @@ pub fn object_of(w: ObjectWords) -> KObject
 }
 
 // The numbers of the object in a slot.
+#[tactic(auto, unfolding(codec::specs::Layout::dec_as))]
 pub fn get_words(s: &[u8]) -> ObjectWords
     requires { length s.now ≡ 40 }
     ensures { result ≡ slot_words (dec_as slot_w s.now 0) }
@@ -193,40 +163,40 @@ pub fn get_words(s: &[u8]) -> ObjectWords
     }
 }
 
-pub fn get_slot(s: &[u8]) -> Slot
-    requires { length s.now ≡ 40 }
-    ensures { result ≡ dec_slot s.now }
-{
-    let t = codec::get_two(s, 4);
-    let o = object_of(get_words(s));
-    Slot {
-        object: o,
-        refcount: t.0,
-        pulsed: t.1 == 1,
-    }
-}
+impl Record for Slot {
+    ghost SIZE = { 40 };
 
-pub fn put_slot(b: &mut [u8], x: Slot)
-    requires { length b.old ≡ 40 }
-    ensures { b.new ≡ enc_slot x }
-{
-    let o = x.object;
-    let w = object_words(o);
-    codec::put_four(b, 0, Four(w.kind, x.refcount, x.pulsed as u32, w.a));
-    codec::put_two(b, 16, Two(w.b, w.c));
-    codec::put64(b, 24, w.x);
-    codec::put64(b, 32, w.y);
-}
+    ghost enc = { enc_slot };
 
-pub fn put_slots(b: &mut [u8], at: usize, l: [Slot; 128])
-    requires { at + 5120 ≤ length b.old }
-    ensures b_after { b.new ≡ over b.old at (enc_all enc_slot l) }
-    ensures l_len { length l ≡ 128 }
-{
-    let mut i = 0;
-    while i < 128 {
-        let from = at + i * 40;
-        put_slot(&mut b[from..from + 40], l[i]);
-        i += 1;
+    ghost dec = { dec_slot };
+
+    const SIZE: usize = 40;
+
+    fn blank() -> Slot {
+        Slot {
+            object: KObject::Free(0),
+            refcount: 0,
+            pulsed: false,
+        }
     }
+
+    #[tactic(auto, unfolding(crate::specs::Slot::dec_slot, codec::specs::Layout::dec_as))]
+    fn get(s: &[u8]) -> Slot {
+        let t = codec::get_two(s, 4);
+        Slot {
+            object: object_of(get_words(s)),
+            refcount: t.0,
+            pulsed: t.1 == 1,
+        }
+    }
+
+    fn put(self, b: &mut [u8]) {
+        let w = object_words(self.object);
+        codec::put_four(b, 0, Four(w.kind, self.refcount, self.pulsed as u32, w.a));
+        codec::put_two(b, 16, Two(w.b, w.c));
+        codec::put64(b, 24, w.x);
+        codec::put64(b, 32, w.y);
+    }
+
+    ghost sized = { length-enc_slot };
 }

@@ -1,9 +1,5 @@
 -- Collecting the result of a wait keeps a state sound.
-use Rattle.std.specs.Prelude.{◌≡◌, refl}
-use Rattle.types.specs.declared.thread.ThreadOption.{ThreadOption}
-use Rattle.types.specs.declared.thread.ThreadOption.TheVariants.{NoThread, SomeThread}
-use Rattle.types.specs.declared.thread.WaitResult.TheVariants.{NoResult}
-use Rattle.types.specs.declared.thread.WaitSyscall.TheVariants.{NoSyscall}
+use Rattle.std.specs.Prelude.{◌≡◌, refl, Option, Some, None, ℕ}
 use Rattle.types.specs.declared.kernel.Kernel.{Kernel}
 use Rattle.sound.specs.View.{thread_at}
 use Rattle.sound.specs.Objects.{Live}
@@ -15,13 +11,13 @@ use Rattle.passing.specs.Threads.{live-ok, live-widths, thread-parts}
 use Rattle.passing.specs.Switch.{current-live}
 use Rattle.svc.specs.Collect.{collect_as, collect}
 
-collect-as : (k : Kernel) (p : Parts k) (c : ThreadOption) → k.current_thread ≡ c → Parts (collect_as c k)
-collect-as k p NoThread e = p
-collect-as k p (SomeThread c) e =
+collect-as : (k : Kernel) (p : Parts k) (c : Option ℕ) → k.current_thread ≡ c → Parts (collect_as c k)
+collect-as k p None e = p
+collect-as k p (Some c) e =
     let live : Live k.threads c = current-live k p c e in
     let u = live-ok k p c live in
     let w = live-widths k p c live in
-    thread-parts k p c live (with_result (thread_at k.threads c) NoResult NoSyscall)
+    thread-parts k p c live (with_result (thread_at k.threads c) None None)
     (record {
       ok = record { priority = u.priority; run = u.run; list = u.list; only = u.only };
       live = live;

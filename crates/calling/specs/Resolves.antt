@@ -1,15 +1,13 @@
 -- Resolving a handle keeps a state sound, unless the store is full: every object that was named stays as it was, and the object found is live and named if its number is not 0.
-use Rattle.std.specs.Prelude.{◌≡◌, refl, Bool, true, false, List, ℕ, ◌+◌, ◌≤◌, ◌<◌, eqb, set}
+use Rattle.std.specs.Prelude.{◌≡◌, refl, Bool, true, false, List, ℕ, ◌+◌, ◌≤◌, ◌<◌, eqb, set, Option, Some, None}
 use Rattle.std.proofs.Common.{◌∙◌, arith}
 use Rattle.laws.specs.Logic.{pick}
-use Rattle.types.specs.declared.thread.ThreadOption.{ThreadOption}
-use Rattle.types.specs.declared.thread.ThreadOption.TheVariants.{NoThread, SomeThread}
 use Rattle.types.specs.declared.thread.Thread as th
 use Rattle.types.specs.declared.object.KObject.TheVariants.{Thread, Process}
 use Rattle.types.specs.declared.object.HandleTable.{HandleTable}
 use Rattle.types.specs.declared.object.ObjectStore.{ObjectStore}
 use Rattle.types.specs.declared.kernel.Kernel.{Kernel}
-use Rattle.types.specs.Thread.{thread_value}
+use Rattle.types.specs.Thread.{option_value}
 use Rattle.sound.specs.Threads.{CurrentOk}
 use Rattle.sound.specs.Objects.{names, kept_names, kept_at, ContentOk}
 use Rattle.object.specs.Slots.{with_kept, with_process}
@@ -27,17 +25,17 @@ use Rattle.passing.specs.Alike.{store-parts}
 use Rattle.svc.specs.Call.{with_objects, resolved}
 
 -- ---- the current thread of a sound state
-current_in : (c : ThreadOption) (n : ℕ) → n ≤ 32 → CurrentOk c n → CurrentIn c
-current_in NoThread n m h = tt
-current_in (SomeThread t) n m h = omega arith
+current_in : (c : Option ℕ) (n : ℕ) → n ≤ 32 → CurrentOk c n → CurrentIn c
+current_in None n m h = tt
+current_in (Some t) n m h = omega arith
 
-current-word : (c : ThreadOption) → Word (thread_value c) → CurrentFits c
-current-word NoThread w = tt
-current-word (SomeThread t) w = w
+current-word : (c : Option ℕ) → Word (option_value c) → CurrentFits c
+current-word None w = tt
+current-word (Some t) w = w
 
-current-content : (n : ℕ) (ts : List th.Thread) (c : ThreadOption) → CurrentOk c n → OfCurrent (ContentOk n ts) c
-current-content n ts NoThread h = tt
-current-content n ts (SomeThread t) h = h
+current-content : (n : ℕ) (ts : List th.Thread) (c : Option ℕ) → CurrentOk c n → OfCurrent (ContentOk n ts) c
+current-content n ts None h = tt
+current-content n ts (Some t) h = h
 
 -- ---- the finding `overflow` is left alone
 thread-overflow_if : (q : Bool) (s : ObjectStore) (t : ℕ) → (pick q (with_kept (insert s (Thread t)) (set s.thread_objects t (record { 0 = s.free }))) s).overflow ≡ s.overflow
@@ -58,17 +56,17 @@ pub process_object-overflow : (s : ObjectStore) → (process_object s).overflow 
 unfolding process_object
 process_object-overflow s = process-overflow_if (eqb s.process_object.0 0) s
 
-current-overflow : (c : ThreadOption) (s : ObjectStore) → (of_current s c).store.overflow ≡ s.overflow
-current-overflow NoThread s = refl
-current-overflow (SomeThread t) s = thread_object-overflow s t
+current-overflow : (c : Option ℕ) (s : ObjectStore) → (of_current s c).store.overflow ≡ s.overflow
+current-overflow None s = refl
+current-overflow (Some t) s = thread_object-overflow s t
 
-resolve-overflow_if : (p q : Bool) (c : ThreadOption) (t : HandleTable) (s : ObjectStore) (h : ℕ)
+resolve-overflow_if : (p q : Bool) (c : Option ℕ) (t : HandleTable) (s : ObjectStore) (h : ℕ)
     → (pick p (of_current s c) (pick q (record { object = (process_object s).process_object; store = process_object s }) (record { object = record { 0 = object_of t h }; store = s }))).store.overflow ≡ s.overflow
 resolve-overflow_if true q c t s h = current-overflow c s
 resolve-overflow_if false true c t s h = process_object-overflow s
 resolve-overflow_if false false c t s h = refl
 
-pub resolve-overflow : (c : ThreadOption) (t : HandleTable) (s : ObjectStore) (h : ℕ) → (resolve c t s h).store.overflow ≡ s.overflow
+pub resolve-overflow : (c : Option ℕ) (t : HandleTable) (s : ObjectStore) (h : ℕ) → (resolve c t s h).store.overflow ≡ s.overflow
 unfolding resolve
 resolve-overflow c t s h = resolve-overflow_if (eqb h 0xFFFF8000) (eqb h 0xFFFF8001) c t s h
 
@@ -83,7 +81,7 @@ module _ (k : Kernel) (p : Parts k) (h : ℕ) (e : (resolved k h).store.full ≡
   pub resolved-store : StoreOk k.thread_count k.threads (names k.handles k.threads) (resolved k h).store
   resolved-store =
       let n : ℕ = k.thread_count in
-      let c : ThreadOption = k.current_thread in
+      let c : (Option ℕ) = k.current_thread in
       record {
         ob = resolved-found.ok;
         contents = each-resolve (ContentOk n k.threads) c k.handles k.objects h (current-content n k.threads c p.threads.current) tt p.contents;

@@ -1,18 +1,16 @@
 -- The calls on mutexes, semaphores and events keep a state sound.
-use Rattle.std.specs.Prelude.{◌≡◌, refl, Bool, true, false, not, List, ℕ, ◌-◌, eqb, ltb}
+use Rattle.std.specs.Prelude.{◌≡◌, refl, Bool, true, false, not, List, ℕ, ◌-◌, eqb, ltb, Option, Some, None}
 use Rattle.std.proofs.Common.{inl, arith}
 use Rattle.laws.specs.Logic.{◌or◌}
-use Rattle.types.specs.declared.thread.ThreadOption.{ThreadOption}
-use Rattle.types.specs.declared.thread.ThreadOption.TheVariants.{NoThread, SomeThread}
 use Rattle.types.specs.declared.thread.Thread as th
 use Rattle.types.specs.declared.sync.Mutex as mu
 use Rattle.types.specs.declared.sync.Semaphore as se
 use Rattle.types.specs.declared.object.KObject.{KObject}
 use Rattle.types.specs.declared.object.KObject.TheVariants.{Free, Thread, Event, Mutex, Semaphore, Timer, AddressArbiter, Process, ResourceLimit}
 use Rattle.types.specs.declared.kernel.Kernel.{Kernel}
-use Rattle.types.specs.Thread.{thread_value}
+use Rattle.types.specs.Thread.{option_value}
 use Rattle.types.specs.Sync.{reset_from_raw}
-use Rattle.block.proofs.Enums.{thread-flag-fits, reset_fits}
+use Rattle.block.proofs.Enums.{option-flag-fits, reset_fits}
 use Rattle.sound.specs.View.{object_at}
 use Rattle.sound.specs.Objects.{OwnerOk}
 use Rattle.sound.specs.Sound.{Sound}
@@ -31,16 +29,16 @@ use Rattle.calling.specs.Call.{RegistersFit, Clear, Accepted, NewOk, create_obje
 
 -- ---- `create_mutex`
 module _ (k : Kernel) (p : Parts k) where
-  owner-ok : (c : ThreadOption) → k.current_thread ≡ c → OwnerOk k.threads c
-  owner-ok NoThread e = tt
-  owner-ok (SomeThread t) e = current-live k p t e
+  owner-ok : (c : Option ℕ) → k.current_thread ≡ c → OwnerOk k.threads c
+  owner-ok None e = tt
+  owner-ok (Some t) e = current-live k p t e
 
   mutex_new : (locked : Bool) → NewOk k (Mutex (new_mutex k.current_thread locked))
   mutex_new true = record {
     kind = omega arith;
     head = refl;
     content = owner-ok k.current_thread refl;
-    fits = record { kind = omega arith; a = thread-flag-fits k.current_thread; b = p.current; c = omega arith; x = z8; y = z8 };
+    fits = record { kind = omega arith; a = option-flag-fits k.current_thread; b = p.current; c = omega arith; x = z8; y = z8 };
   }
   mutex_new false = record { kind = omega arith; head = refl; content = tt; fits = record { kind = omega arith; a = z4; b = z4; c = z4; x = z8; y = z8 } }
 
@@ -57,11 +55,11 @@ module _ (n : ℕ) (ts : List th.Thread) where
   unlocked-like : (m : mu.Mutex) → Like n ts (Mutex m) (Mutex (unlocked m))
   unlocked-like m = record {
     shape = refl;
-    content = λ c. pick-both (OwnerOk ts) (eqb (m.lock_count - 1) 0) NoThread m.owner tt c;
+    content = λ c. pick-both (OwnerOk ts) (eqb (m.lock_count - 1) 0) None m.owner tt c;
     fits = λ f. record {
       kind = f.kind;
-      a = thread-flag-fits (unlocked m).owner;
-      b = pick-both (λ (o : ThreadOption). Word (thread_value o)) (eqb (m.lock_count - 1) 0) NoThread m.owner z4 f.b;
+      a = option-flag-fits (unlocked m).owner;
+      b = pick-both (λ (o : Option ℕ). Word (option_value o)) (eqb (m.lock_count - 1) 0) None m.owner z4 f.b;
       c = omega (arith, f.c);
       x = f.x;
       y = f.y;

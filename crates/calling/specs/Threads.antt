@@ -1,13 +1,10 @@
 -- The calls on threads keep a state sound.
-use Rattle.std.specs.Prelude.{◌≡◌, refl, true, false, List, ℕ, ◌<◌, eqb, leb, length}
+use Rattle.units.specs.declared.Ticks.{Ticks}
+use Rattle.std.specs.Prelude.{◌≡◌, refl, true, false, List, ℕ, ◌<◌, eqb, leb, length, Option, Some, None}
 use Rattle.std.proofs.Math.Path.{ap}
 use Rattle.std.proofs.Common.{sym, ◌∙◌, inl, inr, arith}
 use borrow.Author.Tests.{leb-false}
 use Rattle.laws.specs.Logic.{or-false}
-use Rattle.types.specs.declared.thread.ThreadOption.{ThreadOption}
-use Rattle.types.specs.declared.thread.ThreadOption.TheVariants.{NoThread, SomeThread}
-use Rattle.types.specs.declared.thread.TickOption.{TickOption}
-use Rattle.types.specs.declared.thread.TickOption.TheVariants.{NoTick, SomeTick}
 use Rattle.types.specs.declared.thread.Thread as th
 use Rattle.types.specs.declared.object.KObject.{KObject}
 use Rattle.types.specs.declared.object.KObject.TheVariants.{Free, Thread, Event, Mutex, Semaphore, Timer, AddressArbiter, Process, ResourceLimit}
@@ -94,17 +91,17 @@ unfolding create_thread
 create_thread-answers k r = inl refl
 
 -- ---- `exit_thread`
-exit-as : (c : ThreadOption) (k : Kernel) → CurrentOk c k.thread_count → Sound k → Sound (exit_as c k).kernel
-exit-as NoThread k l s = s
-exit-as (SomeThread c) k l s = end_thread-sound k c l s
+exit-as : (c : Option ℕ) (k : Kernel) → CurrentOk c k.thread_count → Sound k → Sound (exit_as c k).kernel
+exit-as None k l s = s
+exit-as (Some c) k l s = end_thread-sound k c l s
 
 pub exit_thread-sound : (k : Kernel) → Sound k → Sound (exit_thread k).kernel
 unfolding exit_thread
 exit_thread-sound k s = exit-as k.current_thread k s.threads.current s
 
-exit_accepted : (c : ThreadOption) (k : Kernel) → Accepted (exit_as c k).answer
-exit_accepted NoThread k = inl refl
-exit_accepted (SomeThread c) k = inl refl
+exit_accepted : (c : Option ℕ) (k : Kernel) → Accepted (exit_as c k).answer
+exit_accepted None k = inl refl
+exit_accepted (Some c) k = inl refl
 
 pub exit_thread-answers : (k : Kernel) → Accepted (exit_thread k).answer
 unfolding exit_thread
@@ -112,21 +109,21 @@ exit_thread-answers k = exit_accepted k.current_thread k
 
 -- ---- `sleep_thread`
 -- a current thread that runs can run
-runs_as_lem : (k : Kernel) (c : ThreadOption) → runs_as c k.threads ≡ true → Runs k.threads c
-runs_as_lem k NoThread e = tt
-runs_as_lem k (SomeThread c) e = running_runs (thread_at k.threads c).status e
+runs_as_lem : (k : Kernel) (c : Option ℕ) → runs_as c k.threads ≡ true → Runs k.threads c
+runs_as_lem k None e = tt
+runs_as_lem k (Some c) e = running_runs (thread_at k.threads c).status e
 
 pub runs-current : (k : Kernel) → runs? k ≡ true → Runs k.threads k.current_thread
 unfolding runs?
 runs-current k e = runs_as_lem k k.current_thread e
 
-since_as : (k : Kernel) (p : Parts k) (c : ThreadOption) (tick : ℕ) → k.current_thread ≡ c → tick < 18446744073709551616 → Parts (runs_since c k tick)
-since_as k p NoThread tick e w = p
-since_as k p (SomeThread c) tick e w = run-parts k p c (current-live k p c e) (thread_at k.threads c).waited tick w
+since_as : (k : Kernel) (p : Parts k) (c : Option ℕ) (tick : ℕ) → k.current_thread ≡ c → tick < 18446744073709551616 → Parts (runs_since c k tick)
+since_as k p None tick e w = p
+since_as k p (Some c) tick e w = run-parts k p c (current-live k p c e) (thread_at k.threads c).waited tick w
 
-sleep-as : (k : Kernel) (p : Parts k) (d : TickOption) (tick : ℕ) → runs? k ≡ true → tick < 18446744073709551616 → Parts (sleep_for d k tick)
-sleep-as k p NoTick tick e w = since_as k p k.current_thread tick refl w
-sleep-as k p (SomeTick d) tick e w = sleep_current-parts k p d.0 tick (runs_unlisted k p k.current_thread (runs-current k e))
+sleep-as : (k : Kernel) (p : Parts k) (d : Option Ticks) (tick : ℕ) → runs? k ≡ true → tick < 18446744073709551616 → Parts (sleep_for d k tick)
+sleep-as k p None tick e w = since_as k p k.current_thread tick refl w
+sleep-as k p (Some d) tick e w = sleep_current-parts k p d.0 tick (runs_unlisted k p k.current_thread (runs-current k e))
 
 pub sleep_thread-sound : (k : Kernel) (r : Registers) (tick : ℕ) → tick < 18446744073709551616 → Sound k → runs? k ≡ true → Sound (sleep_thread k r tick).kernel
 unfolding sleep_thread
@@ -151,20 +148,20 @@ named_in n ts ResourceLimit c = tt
 
 thread-in : (k : Kernel) (h : ℕ) → Sound k → CurrentOk (resolve_thread k h) k.thread_count
 thread-in k h s =
-    pick-both (λ (o : ThreadOption). CurrentOk o k.thread_count) (eqb h 0xFFFF8000) k.current_thread (thread_named (object_at k.objects (table.object_of k.handles h))) s.threads.current
+    pick-both (λ (o : Option ℕ). CurrentOk o k.thread_count) (eqb h 0xFFFF8000) k.current_thread (thread_named (object_at k.objects (table.object_of k.handles h))) s.threads.current
     (named_in k.thread_count k.threads (object_at k.objects (table.object_of k.handles h)) (s.contents (table.object_of k.handles h)))
 
-priority_as : (o : ThreadOption) (k : Kernel) (p : ℕ) → CurrentOk o k.thread_count → Sound k → Sound (set_priority_as o k p).kernel
-priority_as NoThread k p l s = s
-priority_as (SomeThread t) k p l s = set_priority-sound k t p l s
+priority_as : (o : Option ℕ) (k : Kernel) (p : ℕ) → CurrentOk o k.thread_count → Sound k → Sound (set_priority_as o k p).kernel
+priority_as None k p l s = s
+priority_as (Some t) k p l s = set_priority-sound k t p l s
 
 pub set_thread_priority-sound : (k : Kernel) (r : Registers) → Sound k → Sound (set_thread_priority k r).kernel
 unfolding set_thread_priority
 set_thread_priority-sound k r s = priority_as (resolve_thread k r.r0) k r.r1 (thread-in k r.r0 s) s
 
-priority-accepted : (o : ThreadOption) (k : Kernel) (p : ℕ) → Accepted (set_priority_as o k p).answer
-priority-accepted NoThread k p = inr (omega arith, omega arith)
-priority-accepted (SomeThread t) k p = inl refl
+priority-accepted : (o : Option ℕ) (k : Kernel) (p : ℕ) → Accepted (set_priority_as o k p).answer
+priority-accepted None k p = inr (omega arith, omega arith)
+priority-accepted (Some t) k p = inl refl
 
 pub set_thread_priority-answers : (k : Kernel) (r : Registers) → Accepted (set_thread_priority k r).answer
 unfolding set_thread_priority

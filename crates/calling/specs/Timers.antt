@@ -1,8 +1,7 @@
 -- The calls on timers keep a state sound. Each of the three that name a timer first fires what came due.
-use Rattle.std.specs.Prelude.{◌≡◌, refl, false, List, ℕ, ◌^◌, ◌<◌}
+use Rattle.std.specs.Prelude.{◌≡◌, refl, false, List, ℕ, ◌^◌, ◌<◌, None}
 use Rattle.std.proofs.Common.{sym, ◌∙◌, inl, arith}
 use Rattle.units.specs.Ticks.{nanos_to_ticks}
-use Rattle.types.specs.declared.thread.TickOption.TheVariants.{NoTick}
 use Rattle.types.specs.declared.thread.Thread as th
 use Rattle.types.specs.declared.sync.Timer as ti
 use Rattle.types.specs.declared.object.KObject.{KObject}
@@ -28,7 +27,7 @@ use Rattle.calling.specs.Resolves.{resolve-overflow, resolved-parts}
 use Rattle.calling.specs.Call.{RegistersFit, Clear, Accepted, NewOk, create_object-sound, create_object-answers, Keeps, refused, content-parts}
 
 -- ---- `create_timer`
-timer_new : (k : Kernel) (raw : ℕ) → NewOk k (Timer (record { reset_type = reset_from_raw raw; signaled = false; fire_at = NoTick; interval = record { 0 = 0 } }))
+timer_new : (k : Kernel) (raw : ℕ) → NewOk k (Timer (record { reset_type = reset_from_raw raw; signaled = false; fire_at = None; interval = record { 0 = 0 } }))
 timer_new k raw = record { kind = omega arith; head = refl; content = tt; fits = record { kind = omega arith; a = reset_fits (reset_from_raw raw); b = z4; c = z4; x = z8; y = z8 } }
 
 pub create_timer-sound : (k : Kernel) (r : Registers) → Sound k → Clear (create_timer k r).kernel → Sound (create_timer k r).kernel
@@ -37,7 +36,7 @@ create_timer-sound k r s c = create_object-sound k _ (timer_new k r.r1) s c
 
 pub create_timer-answers : (k : Kernel) (r : Registers) → Accepted (create_timer k r).answer
 unfolding create_timer
-create_timer-answers k r = create_object-answers k (Timer (record { reset_type = reset_from_raw r.r1; signaled = false; fire_at = NoTick; interval = record { 0 = 0 } }))
+create_timer-answers k r = create_object-answers k (Timer (record { reset_type = reset_from_raw r.r1; signaled = false; fire_at = None; interval = record { 0 = 0 } }))
 
 -- ---- after timers fired and the handle h was resolved
 pub caught-parts : (k : Kernel) (tick : ℕ) → (caught_up k tick).objects.overflow ≡ false → Parts k → Parts (caught_up k tick)
@@ -120,7 +119,7 @@ cancelled-like n ts (Thread t) = like-same n ts (Thread t)
 cancelled-like n ts (Event e) = like-same n ts (Event e)
 cancelled-like n ts (Mutex m) = like-same n ts (Mutex m)
 cancelled-like n ts (Semaphore s) = like-same n ts (Semaphore s)
-cancelled-like n ts (Timer t) = timer_like n ts t t.signaled NoTick (λ f. z8)
+cancelled-like n ts (Timer t) = timer_like n ts t t.signaled None (λ f. z8)
 cancelled-like n ts (AddressArbiter a) = like-same n ts (AddressArbiter a)
 cancelled-like n ts Process = like-same n ts Process
 cancelled-like n ts ResourceLimit = like-same n ts ResourceLimit

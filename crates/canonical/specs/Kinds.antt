@@ -1,6 +1,6 @@
--- An object's words as those of the object that they say, kind by kind: which of them are looked at. Assumes nothing.
-use Rattle.std.specs.Prelude.{◌≡◌, refl, Bool, false, ◌≢◌, List, [], ◌∷◌, ℕ, zero, suc, ◌≤◌, eqb, leb, ltb}
-use Rattle.std.proofs.Common.{ap, sym, ◌∙◌, arith, ne_eqb}
+-- An object's words as those of the object that they say: which of them are looked at. Assumes nothing.
+use Rattle.std.specs.Prelude.{◌≡◌, refl, Bool, List, [], ◌∷◌, ℕ, zero, suc, ◌≤◌, eqb, leb, ltb}
+use Rattle.std.proofs.Common.{ap, sym, ◌∙◌, arith}
 use mir.Val.{bool_byte}
 use Rattle.laws.specs.Logic.{◌and◌, and-end, and_assoc}
 use Rattle.laws.specs.Test.{t_same, t_as, t-eq, t-le}
@@ -9,10 +9,10 @@ use Rattle.codec.proofs.Same.{same_refl, same_append}
 use Rattle.types.specs.declared.sync.ResetType.{ResetType}
 use Rattle.types.specs.declared.sync.ResetType.TheVariants.{OneShot, Sticky, Pulse}
 use Rattle.types.specs.Sync.{reset_number, reset_from_raw}
-use Rattle.types.specs.Thread.{tick_flag, tick_value, tick_option, thread_flag, thread_value, thread_option}
+use Rattle.types.specs.Thread.{option_flag, tick_value, tick_option}
 use Rattle.block.specs.declared.slot.ObjectWords.{ObjectWords}
 use Rattle.block.specs.Slot.{words, object_words, object_of}
-use Rattle.canonical.specs.Parts.{object_list, option?, same-no, same-on, flag-test}
+use Rattle.canonical.specs.Parts.{object_list, same-on, flag-test}
 
 -- the number of a reset type, and a mark
 abbrev pub reset? : ℕ → ℕ → Bool
@@ -20,7 +20,7 @@ reset? a b = leb a 2 and ltb b 2
 
 -- a flag and a tick, as those of the option that they say
 abbrev pub tick? : ℕ → ℕ → Bool
-tick? f v = same (f ∷ v ∷ []) (tick_flag (tick_option f v) ∷ tick_value (tick_option f v) ∷ [])
+tick? f v = same (f ∷ v ∷ []) (option_flag (tick_option f v) ∷ tick_value (tick_option f v) ∷ [])
 
 reset_small : (r : ResetType) → reset_number r ≤ 2
 reset_small OneShot = omega arith
@@ -48,7 +48,7 @@ two-words a b c d xs ys = same_append (a ∷ b ∷ []) (c ∷ d ∷ []) xs ys re
 resets : (a b : ℕ) (xs ys : List ℕ) → same (a ∷ b ∷ xs) (reset_number (reset_from_raw a) ∷ bool_byte (eqb b 1) ∷ ys) ≡ reset? a b and same xs ys
 resets a b xs ys = two_tests a b (reset_number (reset_from_raw a)) (bool_byte (eqb b 1)) xs ys ∙ (λ i. (reset_test a i and flag-test b i) and same xs ys)
 
--- ---- each kind
+-- ---- the kinds that need a law of their own
 module _ (w : ObjectWords) where
   abbrev pub whole : Bool
   whole = same (object_list w) (object_list (object_words (object_of w)))
@@ -56,43 +56,12 @@ module _ (w : ObjectWords) where
   abbrev kinded : ℕ → Bool
   kinded k = same (object_list (words k w.a w.b w.c w.x w.y)) (object_list (object_words (object_of (words k w.a w.b w.c w.x w.y))))
 
-  pub as_free : w.kind ≡ 0 → same (w.b ∷ w.c ∷ w.x ∷ w.y ∷ []) (0 ∷ 0 ∷ 0 ∷ 0 ∷ []) ≡ whole
-  as_free e = sym (ap kinded e ∙ same-on 0 0 _ _ refl ∙ same-on w.a w.a _ _ refl)
-
-  pub as_thread : w.kind ≡ 1 → same (w.b ∷ w.c ∷ w.x ∷ w.y ∷ []) (0 ∷ 0 ∷ 0 ∷ 0 ∷ []) ≡ whole
-  as_thread e = sym (ap kinded e ∙ same-on 1 1 _ _ refl ∙ same-on w.a w.a _ _ refl)
-
   pub as_event : w.kind ≡ 2 → reset? w.a w.b and same (w.c ∷ w.x ∷ w.y ∷ []) (0 ∷ 0 ∷ 0 ∷ []) ≡ whole
   as_event e = sym (ap kinded e ∙ same-on 2 2 _ _ refl ∙ resets w.a w.b (w.c ∷ w.x ∷ w.y ∷ []) (0 ∷ 0 ∷ 0 ∷ []))
-
-  pub as_mutex : w.kind ≡ 3 → option? w.a w.b and same (w.x ∷ w.y ∷ []) (0 ∷ 0 ∷ []) ≡ whole
-  as_mutex e =
-      let o = thread_option w.a w.b in
-      sym (ap kinded e ∙ same-on 3 3 _ _ refl
-      ∙ two-words w.a w.b (thread_flag o) (thread_value o) (w.c ∷ w.x ∷ w.y ∷ []) (w.c ∷ 0 ∷ 0 ∷ [])
-      ∙ ap (λ (t : Bool). option? w.a w.b and t) (same-on w.c w.c (w.x ∷ w.y ∷ []) (0 ∷ 0 ∷ []) refl))
-
-  pub as_semaphore : w.kind ≡ 4 → same (w.c ∷ w.x ∷ w.y ∷ []) (0 ∷ 0 ∷ 0 ∷ []) ≡ whole
-  as_semaphore e = sym (ap kinded e ∙ same-on 4 4 _ _ refl ∙ same-on w.a w.a _ _ refl ∙ same-on w.b w.b _ _ refl)
 
   pub as_timer : w.kind ≡ 5 → reset? w.a w.b and tick? w.c w.x ≡ whole
   as_timer e =
       let o = tick_option w.c w.x in
-      let t : same (w.c ∷ w.x ∷ w.y ∷ []) (tick_flag o ∷ tick_value o ∷ w.y ∷ []) ≡ tick? w.c w.x =
-      two-words w.c w.x (tick_flag o) (tick_value o) (w.y ∷ []) (w.y ∷ []) ∙ ap (λ (b : Bool). tick? w.c w.x and b) (same_refl (w.y ∷ [])) ∙ and-end (tick? w.c w.x) in
-      sym (ap kinded e ∙ same-on 5 5 _ _ refl ∙ resets w.a w.b (w.c ∷ w.x ∷ w.y ∷ []) (tick_flag o ∷ tick_value o ∷ w.y ∷ []) ∙ ap (λ (b : Bool). reset? w.a w.b and b) t)
-
-  pub as_arbiter : w.kind ≡ 6 → same (w.b ∷ w.c ∷ w.x ∷ w.y ∷ []) (0 ∷ 0 ∷ 0 ∷ 0 ∷ []) ≡ whole
-  as_arbiter e = sym (ap kinded e ∙ same-on 6 6 _ _ refl ∙ same-on w.a w.a _ _ refl)
-
-  pub as_process : w.kind ≡ 7 → same (w.a ∷ w.b ∷ w.c ∷ w.x ∷ w.y ∷ []) (0 ∷ 0 ∷ 0 ∷ 0 ∷ 0 ∷ []) ≡ whole
-  as_process e = sym (ap kinded e ∙ same-on 7 7 _ _ refl)
-
-  pub as_limit : w.kind ≡ 8 → same (w.a ∷ w.b ∷ w.c ∷ w.x ∷ w.y ∷ []) (0 ∷ 0 ∷ 0 ∷ 0 ∷ 0 ∷ []) ≡ whole
-  as_limit e = sym (ap kinded e ∙ same-on 8 8 _ _ refl)
-
-  -- an unknown kind reads as a dead slot
-  pub as_none : w.kind ≢ 0 → w.kind ≢ 1 → w.kind ≢ 2 → w.kind ≢ 3 → w.kind ≢ 4 → w.kind ≢ 5 → w.kind ≢ 6 → w.kind ≢ 7 → w.kind ≢ 8 → false ≡ whole
-  as_none p₀ p₁ p₂ p₃ p₄ p₅ p₆ p₇ p₈ =
-      let f : object_words (object_of w) ≡ words 0 w.a 0 0 0 0 = simp (ne_eqb w.kind 1 p₁, ne_eqb w.kind 2 p₂, ne_eqb w.kind 3 p₃, ne_eqb w.kind 4 p₄, ne_eqb w.kind 5 p₅, ne_eqb w.kind 6 p₆, ne_eqb w.kind 7 p₇, ne_eqb w.kind 8 p₈) in
-      sym (ap (λ (o : ObjectWords). same (object_list w) (object_list o)) f ∙ same-no w.kind 0 _ _ p₀)
+      let t : same (w.c ∷ w.x ∷ w.y ∷ []) (option_flag o ∷ tick_value o ∷ w.y ∷ []) ≡ tick? w.c w.x =
+      two-words w.c w.x (option_flag o) (tick_value o) (w.y ∷ []) (w.y ∷ []) ∙ ap (λ (b : Bool). tick? w.c w.x and b) (same_refl (w.y ∷ [])) ∙ and-end (tick? w.c w.x) in
+      sym (ap kinded e ∙ same-on 5 5 _ _ refl ∙ resets w.a w.b (w.c ∷ w.x ∷ w.y ∷ []) (option_flag o ∷ tick_value o ∷ w.y ∷ []) ∙ ap (λ (b : Bool). reset? w.a w.b and b) t)

@@ -1,5 +1,5 @@
 -- Each part of a block compared with the encoding of what it decodes to: which of its words are looked at. Assumes nothing.
-use Rattle.std.specs.Prelude.{◌≡◌, refl, Bool, true, false, ◌≢◌, List, [], ◌∷◌, ◌++◌, ℕ, ◌+◌, ◌<◌, ◌*◌, eqb, ltb, length, take, drop, replicate}
+use Rattle.std.specs.Prelude.{◌≡◌, refl, Bool, true, false, ◌≢◌, List, [], ◌∷◌, ◌++◌, ℕ, ◌<◌, ◌*◌, eqb, ltb, length, take, drop, replicate}
 use Rattle.std.proofs.Common.{sym, ap, ◌∙◌, append-nil, arith, length-drop, take_all, eqb-true, eq-eqb, ne_eqb}
 use mir.Val.{bool_byte}
 use Rattle.std.proofs.lemmas.Bool.{eqb-false}
@@ -7,13 +7,12 @@ use Rattle.laws.specs.Logic.{◌and◌, and_no, and_yes, and-end, and-false, and
 use Rattle.laws.specs.Test.{t_same, t_as, t-eq, t-lt}
 use Rattle.codec.specs.Bytes.{bytes, same, le}
 use Rattle.codec.specs.Layout.{enc_as, dec_as, enc_all}
-use Rattle.codec.specs.declared.Four.{Four}
 use Rattle.codec.proofs.Back.{Fit, Bytes, enc_as_dec}
 use Rattle.codec.proofs.Fit.{length-dec_all, word-whole, part_join}
 use Rattle.codec.proofs.Rows.{length-enc_as}
 use Rattle.codec.proofs.Same.{length_part, same_append, same-cut, same_fields}
 use Rattle.types.specs.declared.kernel.Kernel.{Kernel}
-use Rattle.types.specs.Thread.{wait_list, thread_flag, thread_value, thread_option}
+use Rattle.types.specs.Thread.{wait_list, option_flag, option_value, option_of}
 use Rattle.block.specs.declared.slot.ObjectWords.{ObjectWords}
 use Rattle.block.specs.declared.Head.{Head}
 use Rattle.block.specs.Table.{enc_entry, dec_entry, enc_waiter, dec_waiter, enc_id, dec_id}
@@ -25,15 +24,12 @@ use Rattle.block.proofs.Row.{length-all}
 use Rattle.block.proofs.Fits.{entry_w, entry_as, waiter_w, waiter_as, slot_as, slot-fits, thread_as, thread-fits, block-fits}
 use Rattle.canonical.specs.Rows.{rows?, rows_all}
 
-abbrev pub four_list : Four → List ℕ
-four_list x = x.0 ∷ x.1 ∷ x.2 ∷ x.3 ∷ []
-
 abbrev pub object_list : ObjectWords → List ℕ
 object_list w = w.kind ∷ w.a ∷ w.b ∷ w.c ∷ w.x ∷ w.y ∷ []
 
 -- a flag and a value, as those of the option that they say
 abbrev pub option? : ℕ → ℕ → Bool
-option? f v = same (f ∷ v ∷ []) (thread_flag (thread_option f v) ∷ thread_value (thread_option f v) ∷ [])
+option? f v = same (f ∷ v ∷ []) (option_flag (option_of f v) ∷ option_value (option_of f v) ∷ [])
 
 -- ---- words one after the other
 pub same-no : (m n : ℕ) (xs ys : List ℕ) → m ≢ n → same (m ∷ xs) (n ∷ ys) ≡ false
@@ -47,12 +43,6 @@ same-on m n xs ys e = and_yes _ _ (eq-eqb m n e)
 pub same-last : (m n : ℕ) → eqb m n ≡ same (m ∷ []) (n ∷ [])
 unfolding same
 same-last m n = sym (and-end (eqb m n))
-
-pub four-no : (x y : Four) (us vs : List ℕ) → same (four_list x) (four_list y) ≡ false → same (four_list x ++ us) (four_list y ++ vs) ≡ false
-four-no x y us vs e = same_append (four_list x) (four_list y) us vs refl ∙ and_no _ _ e
-
-pub four-on : (x y : Four) (us vs : List ℕ) → same (four_list x) (four_list y) ≡ true → same (four_list x ++ us) (four_list y ++ vs) ≡ same us vs
-four-on x y us vs e = same_append (four_list x) (four_list y) us vs refl ∙ and_yes _ _ e
 
 -- ---- words that say themselves, and flags
 same_word : (n : ℕ) → eqb n n ≡ true
@@ -163,7 +153,7 @@ head-parts b h e =
     let v = le 4 b 12 in
     let p = le 4 b 24 in
     let q = le 4 b 28 in
-    let o = thread_option f v in
+    let o = option_of f v in
     let O = option? f v in
     let Z : List ℕ = replicate 76 0 in
     let z = same (take 76 (drop 52 b)) Z in
@@ -173,7 +163,7 @@ head-parts b h e =
     let t : Fit said_w vs = fit_front said_w (4 ∷ 4 ∷ 4 ∷ []) vs (0 ∷ 0 ∷ 0 ∷ []) refl (block-fits b h).head in
     let x : same (take 52 b) (enc_as said_w vs) ≡ same (dec_as said_w b 0) vs = same_fields said_w vs b 0 h (omega arith) t in
     let y : same (dec_as said_w b 0) vs ≡ O and (eqb p (bool_byte (eqb p 1)) and eqb q (bool_byte (eqb q 1))) =
-    same-said (le 4 b 0) (le 4 b 4) f v (le 4 b 16) (le 4 b 20) p q (le 4 b 32) (le 4 b 36) (le 4 b 40) (le 4 b 44) (le 4 b 48) (thread_flag o) (thread_value o) (bool_byte (eqb p 1)) (bool_byte (eqb q 1)) in
+    same-said (le 4 b 0) (le 4 b 4) f v (le 4 b 16) (le 4 b 20) p q (le 4 b 32) (le 4 b 36) (le 4 b 40) (le 4 b 44) (le 4 b 48) (option_flag o) (option_value o) (bool_byte (eqb p 1)) (bool_byte (eqb q 1)) in
     let u = x ∙ y ∙ (λ i. O and (flag-test p i and flag-test q i)) in
     (λ i. same (sym j i) (said_as k i)) ∙ c ∙ (λ i. u i and z) ∙ sym (and_assoc O (ltb p 2 and ltb q 2) z) ∙ (λ i. O and sym (and_assoc (ltb p 2) (ltb q 2) z) i)
 

@@ -1,12 +1,9 @@
 -- What a case asks, and what the definitions answer.
-use Rattle.std.specs.Prelude.{Bool, true, false, List, [], ◌∷◌, ◌++◌, map, ℕ, set}
+use Rattle.units.specs.declared.Ticks.{Ticks}
+use Rattle.std.specs.Prelude.{Bool, true, false, List, [], ◌∷◌, ◌++◌, map, ℕ, set, Option, Some, None}
 use Rattle.laws.specs.Logic.{pick}
 use Rattle.laws.specs.Count.{one?}
 use Rattle.units.specs.Ticks.{nanos_to_ticks}
-use Rattle.types.specs.declared.thread.TickOption.{TickOption}
-use Rattle.types.specs.declared.thread.TickOption.TheVariants.{NoTick, SomeTick}
-use Rattle.types.specs.declared.thread.ThreadOption.{ThreadOption}
-use Rattle.types.specs.declared.thread.ThreadOption.TheVariants.{NoThread, SomeThread}
 use Rattle.types.specs.declared.thread.ThreadStatus.TheVariants.{Ready, Running}
 use Rattle.types.specs.declared.thread.Thread as th
 use Rattle.types.specs.declared.sync.ResetType.TheVariants.{OneShot}
@@ -21,8 +18,6 @@ use Rattle.pass.specs.Timers.{fire_timers}
 use Rattle.pass.specs.Pick.{pick_next}
 use Rattle.pass.specs.Schedule.{starves}
 use Rattle.svc.specs.declared.Registers.{Registers}
-use Rattle.svc.specs.declared.WordOption.{WordOption}
-use Rattle.svc.specs.declared.WordOption.TheVariants.{NoWord, SomeWord}
 use Rattle.svc.specs.declared.Served.{Served}
 use Rattle.svc.specs.Waits.{wait_synchronization_n}
 
@@ -34,22 +29,22 @@ pub data Ask : Type 0 where
   -- whether a thread starves that has run for so many ticks
   lead : (span : ℕ) → Ask
   -- the first pick among threads with these priorities, all Ready but the current one, if that is Running
-  picks : (priorities : List ℕ) (current : ThreadOption) (running : Bool) → Ask
+  picks : (priorities : List ℕ) (current : Option ℕ) (running : Bool) → Ask
   -- what 0x25 with a time-out answers thread 0, with a semaphore of a count as object 1 and the handle 0x10000 to it, and the count after
   waits : (count : ℕ) (all : Bool) (handles : List ℕ) (nanos : ℕ) → Ask
 
 -- ---- answers as numbers: none of an option that is none
-abbrev tick_answer : TickOption → List ℕ
-tick_answer NoTick = []
-tick_answer (SomeTick t) = t.0 ∷ []
+abbrev tick_answer : Option Ticks → List ℕ
+tick_answer None = []
+tick_answer (Some t) = t.0 ∷ []
 
-abbrev thread_answer : ThreadOption → List ℕ
-thread_answer NoThread = []
-thread_answer (SomeThread t) = t ∷ []
+abbrev thread_answer : Option ℕ → List ℕ
+thread_answer None = []
+thread_answer (Some t) = t ∷ []
 
-abbrev word_answer : WordOption → List ℕ
-word_answer NoWord = []
-word_answer (SomeWord v) = v ∷ []
+abbrev word_answer : Option ℕ → List ℕ
+word_answer None = []
+word_answer (Some v) = v ∷ []
 
 abbrev count_of : KObject → List ℕ
 count_of (Free n) = []
@@ -77,15 +72,15 @@ store_of x = record {
 }
 
 abbrev timer_due : ℕ → ℕ → KObject
-timer_due at interval = Timer (record { reset_type = OneShot; signaled = false; fire_at = SomeTick (record { 0 = at }); interval = record { 0 = interval } })
+timer_due at interval = Timer (record { reset_type = OneShot; signaled = false; fire_at = Some (record { 0 = at }); interval = record { 0 = interval } })
 
 -- running since tick 0
 abbrev ready_thread : ℕ → th.Thread
 ready_thread priority = new_thread 0 0 priority 0 0 0
 
-abbrev row : List ℕ → ThreadOption → Bool → List th.Thread
-row ps NoThread running = map ready_thread ps
-row ps (SomeThread c) running = let ts : List th.Thread = map ready_thread ps in set ts c (with_status (thread_at ts c) (pick running Running Ready))
+abbrev row : List ℕ → Option ℕ → Bool → List th.Thread
+row ps None running = map ready_thread ps
+row ps (Some c) running = let ts : List th.Thread = map ready_thread ps in set ts c (with_status (thread_at ts c) (pick running Running Ready))
 
 -- thread 0 runs, and the handle 0x10000 names a semaphore
 abbrev state_of : ℕ → Kernel
@@ -93,9 +88,9 @@ state_of count = record {
   status_word = 0;
   objects = store_of (Semaphore (record { count = count; max_count = count }));
   handles = record { entries = (record { handle = record { 0 = 0x10000 }; object = record { 0 = 1 } }) ∷ []; count = 1; next = record { 0 = 0x10001 }; full = false; overflow = false };
-  threads = row (0 ∷ []) (SomeThread 0) true;
+  threads = row (0 ∷ []) (Some 0) true;
   thread_count = 1;
-  current_thread = SomeThread 0;
+  current_thread = Some 0;
   next_tls_slot = 1;
   next_guest_id = 1;
   all_blocked = false;

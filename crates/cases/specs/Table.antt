@@ -1,9 +1,8 @@
 -- The table of worked cases. One test is computed over it, and one law turns the test into an equation for each row.
-use Rattle.std.specs.Prelude.{◌≡◌, refl, Bool, true, false, List, [], ◌∷◌, ℕ, eqb}
+use Rattle.std.specs.Prelude.{◌≡◌, refl, Bool, true, false, List, [], ◌∷◌, ℕ, eqb, Some, None}
 use Rattle.std.proofs.Common.{eqb-true}
 use Rattle.laws.specs.Logic.{◌and◌, ◌or◌, and-true, false-true}
 use Rattle.laws.specs.All.{All}
-use Rattle.types.specs.declared.thread.ThreadOption.TheVariants.{NoThread, SomeThread}
 use Rattle.sound.specs.View.{slot_at}
 use Rattle.object.specs.Slots.{slot_put, content}
 use Rattle.object.specs.Handles.{place_of, object_of}
@@ -36,9 +35,9 @@ table =
     ∷ (fired 100 30 130 gives 160 ∷ [])
     ∷ (lead 17924544 gives 0 ∷ [])
     ∷ (lead 17924545 gives 1 ∷ [])
-    ∷ (picks (5 ∷ 3 ∷ 3 ∷ []) NoThread false gives 1 ∷ [])
-    ∷ (picks (5 ∷ 3 ∷ 3 ∷ []) (SomeThread 2) false gives 1 ∷ [])
-    ∷ (picks (5 ∷ 3 ∷ 3 ∷ []) (SomeThread 2) true gives 2 ∷ [])
+    ∷ (picks (5 ∷ 3 ∷ 3 ∷ []) None false gives 1 ∷ [])
+    ∷ (picks (5 ∷ 3 ∷ 3 ∷ []) (Some 2) false gives 1 ∷ [])
+    ∷ (picks (5 ∷ 3 ∷ 3 ∷ []) (Some 2) true gives 2 ∷ [])
     -- a wait for all of no handles: done, index 0; a wait for any of none with a time-out of 0: 17
     ∷ (waits 1 true [] 0 gives 0 ∷ 0 ∷ 1 ∷ [])
     ∷ (waits 1 false [] 0 gives 17 ∷ 1 ∷ [])

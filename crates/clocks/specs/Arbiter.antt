@@ -1,13 +1,9 @@
 -- `create_address_arbiter` and `arbitrate_address` leave a timer's clock.
-use Rattle.std.specs.Prelude.{◌≡◌, refl, [], ℕ, eqb, ltb}
+use Rattle.units.specs.declared.Ticks.{Ticks}
+use Rattle.std.specs.Prelude.{◌≡◌, refl, [], ℕ, eqb, ltb, Option, Some, None}
 use Rattle.std.proofs.Common.{◌∙◌}
-use Rattle.types.specs.declared.thread.ThreadOption.{ThreadOption}
-use Rattle.types.specs.declared.thread.ThreadOption.TheVariants.{NoThread, SomeThread}
-use Rattle.types.specs.declared.thread.TickOption.{TickOption}
 use Rattle.types.specs.declared.sync.ArbitrationType.{ArbitrationType}
 use Rattle.types.specs.declared.sync.ArbitrationType.TheVariants.{Signal, WaitIfLessThan, DecrementAndWaitIfLessThan, WaitIfLessThanWithTimeout, DecrementAndWaitIfLessThanWithTimeout}
-use Rattle.types.specs.declared.sync.ArbitrationOption.{ArbitrationOption}
-use Rattle.types.specs.declared.sync.ArbitrationOption.TheVariants.{NoArbitration, SomeArbitration}
 use Rattle.types.specs.declared.object.KObject.TheVariants.{AddressArbiter}
 use Rattle.types.specs.declared.object.ObjectStore.{ObjectStore}
 use Rattle.types.specs.declared.kernel.Kernel.{Kernel}
@@ -24,9 +20,9 @@ use Rattle.timing.specs.Keeps.{FirstFree}
 use Rattle.clocks.specs.Resolves.{Used, create_object-clock, resolved-clock}
 
 -- ---- the object q of the state k is the arbiter
-park-as : (c : ThreadOption) (k : Kernel) (q a : ℕ) (time : TickOption) (tick o : ℕ) → clock_at (park_as c k q a time tick).objects o ≡ clock_at k.objects o
-park-as NoThread k q a time tick o = refl
-park-as (SomeThread c) k q a time tick o = push-clock k.objects q c a o
+park-as : (c : Option ℕ) (k : Kernel) (q a : ℕ) (time : Option Ticks) (tick o : ℕ) → clock_at (park_as c k q a time tick).objects o ≡ clock_at k.objects o
+park-as None k q a time tick o = refl
+park-as (Some c) k q a time tick o = push-clock k.objects q c a o
 
 below-clock : (kind : ArbitrationType) (k : Kernel) (q a value word nanos tick o : ℕ) → clock_at (wait_below kind k q a value word nanos tick).kernel.objects o ≡ clock_at k.objects o
 below-clock kind k q a value word nanos tick o =
@@ -46,9 +42,9 @@ module _ (k : Kernel) (f : FirstFree k.objects) (o : ℕ) (u : Used k.objects o)
   unfolding create_address_arbiter
   create_address_arbiter-clock = create_object-clock k f o u (AddressArbiter (record { waiters = 0 }))
 
-  arbitrate-by : (kind : ArbitrationOption) (r : Registers) (word tick : ℕ) → clock_at (arbitrate_by kind k r word tick).kernel.objects o ≡ clock_at k.objects o
-  arbitrate-by NoArbitration r word tick = refl
-  arbitrate-by (SomeArbitration kind) r word tick =
+  arbitrate-by : (kind : Option ArbitrationType) (r : Registers) (word tick : ℕ) → clock_at (arbitrate_by kind k r word tick).kernel.objects o ≡ clock_at k.objects o
+  arbitrate-by None r word tick = refl
+  arbitrate-by (Some kind) r word tick =
       let s : ObjectStore = (resolved k r.r0).store in
       let q : ℕ = (resolved k r.r0).object.0 in
       pick-both (λ (v : Served). clock_at v.kernel.objects o ≡ clock_at s o) (eqb q 0) _ _ refl

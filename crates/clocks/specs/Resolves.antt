@@ -1,5 +1,5 @@
 -- A handle that is resolved and an object that is made leave the clock of every object in use; timers that are fired first move it.
-use Rattle.std.specs.Prelude.{◌≡◌, Bool, ◌≢◌, ◌⊎◌, List, [], ◌∷◌, ℕ, suc, ◌<◌, eqb, length, set, get_or}
+use Rattle.std.specs.Prelude.{◌≡◌, Bool, ◌≢◌, ◌⊎◌, List, [], ◌∷◌, ℕ, suc, ◌<◌, eqb, length, set, get_or, Option, Some, None}
 use Rattle.std.proofs.Math.Path.{refl, ap}
 use Rattle.std.proofs.Common.{sym, subst, ◌∙◌, arith, length-set, get_or-set_same, eqb-true}
 use Rattle.std.proofs.Math.Bool.{true, false}
@@ -8,8 +8,6 @@ use Rattle.std.proofs.Math.ListN.{get_or-eq_default}
 use Rattle.std.proofs.lemmas.Bool.{eqb-false}
 use Rattle.laws.specs.Logic.{pick, lt-cases}
 use Rattle.units.specs.declared.ObjectId.{ObjectId}
-use Rattle.types.specs.declared.thread.ThreadOption.{ThreadOption}
-use Rattle.types.specs.declared.thread.ThreadOption.TheVariants.{NoThread, SomeThread}
 use Rattle.types.specs.declared.thread.Thread as th
 use Rattle.types.specs.declared.object.KObject.{KObject}
 use Rattle.types.specs.declared.object.KObject.TheVariants.{Thread, Process}
@@ -58,11 +56,11 @@ module _ (s : ObjectStore) (f : FirstFree s) (o : ℕ) (u : Used s o) where
   process_object-clock =
       pick-both (λ (y : ObjectStore). clock_at y o ≡ clock_at s o) (eqb s.process_object.0 0) (with_process (insert s Process) (record { 0 = s.free })) s (insert-clock s Process f o u) refl
 
-  current-clock : (c : ThreadOption) → clock_at (of_current s c).store o ≡ clock_at s o
-  current-clock NoThread = refl
-  current-clock (SomeThread t) = thread_object-clock t
+  current-clock : (c : Option ℕ) → clock_at (of_current s c).store o ≡ clock_at s o
+  current-clock None = refl
+  current-clock (Some t) = thread_object-clock t
 
-  pub resolve-clock : (c : ThreadOption) (t : HandleTable) (h : ℕ) → clock_at (resolve c t s h).store o ≡ clock_at s o
+  pub resolve-clock : (c : Option ℕ) (t : HandleTable) (h : ℕ) → clock_at (resolve c t s h).store o ≡ clock_at s o
   unfolding resolve
   resolve-clock c t h =
       pick-both (λ (x : Resolved). clock_at x.store o ≡ clock_at s o) (eqb h 0xFFFF8000) (of_current s c)
@@ -106,16 +104,16 @@ module _ (s : ObjectStore) where
   kept_if t true e = kept-made t (eqb-true (kept_at s t) 0 e)
   kept_if t false e = inl refl
 
-  current-named : (c : ThreadOption) → Named s (own_object c s.thread_objects) (of_current s c).object.0
+  current-named : (c : Option ℕ) → Named s (own_object c s.thread_objects) (of_current s c).object.0
   unfolding thread_object
-  current-named NoThread = inl refl
-  current-named (SomeThread t) = kept_if t (eqb (kept_at s t) 0) refl
+  current-named None = inl refl
+  current-named (Some t) = kept_if t (eqb (kept_at s t) 0) refl
 
   process_if : (q : Bool) → eqb s.process_object.0 0 ≡ q → Named s s.process_object.0 (pick q (with_process (insert s Process) (record { 0 = s.free })) s).process_object.0
   process_if true e = inr (eqb-true s.process_object.0 0 e, refl)
   process_if false e = inl refl
 
-  pub resolve-named : (c : ThreadOption) (t : HandleTable) (h : ℕ) → Named s (named c t s h) (resolve c t s h).object.0
+  pub resolve-named : (c : Option ℕ) (t : HandleTable) (h : ℕ) → Named s (named c t s h) (resolve c t s h).object.0
   unfolding resolve process_object object_of
   resolve-named c t h = go (eqb h 0xFFFF8000) (eqb h 0xFFFF8001)
     where
@@ -127,7 +125,7 @@ module _ (s : ObjectStore) where
       go false false = inl (entry-is t.entries h)
 
 -- ---- timers fired first
-caught-kept_if : (b : Bool) (s : ObjectStore) (ts : List th.Thread) (tick : ℕ) (c : ThreadOption) (t : HandleTable) (h : ℕ)
+caught-kept_if : (b : Bool) (s : ObjectStore) (ts : List th.Thread) (tick : ℕ) (c : Option ℕ) (t : HandleTable) (h : ℕ)
     → named c t (pick b (with_slots (fire_timers s tick) (lost_slots ts 1 (fire_timers s tick).slots)) s) h ≡ named c t s h
 unfolding fire_timers
 caught-kept_if true s ts tick c t h = refl
@@ -155,7 +153,7 @@ module _ (k : Kernel) (tick h : ℕ) where
   caught-named : Named k.objects (named k.current_thread k.handles k.objects h) (resolved (caught_up k tick) h).object.0
   unfolding catch_up_timers
   caught-named =
-      let c : ThreadOption = k.current_thread in
+      let c : (Option ℕ) = k.current_thread in
       let s : ObjectStore = catch_up_timers k.objects k.threads tick in
       let a : named c k.handles s h ≡ named c k.handles k.objects h = caught-kept_if (timer_due tick k.objects.slots) k.objects k.threads tick c k.handles h in
       let b : s.free ≡ k.objects.free = caught-place k.objects k.threads tick in

@@ -1,12 +1,9 @@
 -- The calls on threads and collect leave a timer's clock.
-use Rattle.std.specs.Prelude.{◌≡◌, Bool, true, false, ℕ, ◌<◌, ltb}
+use Rattle.units.specs.declared.Ticks.{Ticks}
+use Rattle.std.specs.Prelude.{◌≡◌, Bool, true, false, ℕ, ◌<◌, ltb, Option, Some, None}
 use Rattle.std.proofs.Math.Path.{refl}
 use Rattle.std.proofs.Common.{◌∙◌, arith, ltb-true}
 use Rattle.laws.specs.Logic.{pick}
-use Rattle.types.specs.declared.thread.ThreadOption.{ThreadOption}
-use Rattle.types.specs.declared.thread.ThreadOption.TheVariants.{NoThread, SomeThread}
-use Rattle.types.specs.declared.thread.TickOption.{TickOption}
-use Rattle.types.specs.declared.thread.TickOption.TheVariants.{NoTick, SomeTick}
 use Rattle.types.specs.declared.kernel.Kernel.{Kernel}
 use Rattle.sound.specs.Objects.{names, kept_at}
 use Rattle.object.specs.Handles as table
@@ -53,44 +50,44 @@ module _ (k : Kernel) (p : Parts k) where
       ∙ create-keeps k r.r1 r.r3 r.r0 r.r4 o u
 
 -- ---- `exit_thread`
-exit-as : (c : ThreadOption) (k : Kernel) (o : ℕ) → Used (exit_as c k).kernel.objects o → clock_at (exit_as c k).kernel.objects o ≡ clock_at k.objects o
-exit-as NoThread k o u = refl
-exit-as (SomeThread c) k o u = end-keeps k c o u
+exit-as : (c : Option ℕ) (k : Kernel) (o : ℕ) → Used (exit_as c k).kernel.objects o → clock_at (exit_as c k).kernel.objects o ≡ clock_at k.objects o
+exit-as None k o u = refl
+exit-as (Some c) k o u = end-keeps k c o u
 
 pub exit_thread-clock : (k : Kernel) (o : ℕ) → Used (exit_thread k).kernel.objects o → clock_at (exit_thread k).kernel.objects o ≡ clock_at k.objects o
 unfolding exit_thread
 exit_thread-clock k o u = exit-as k.current_thread k o u
 
 -- ---- `sleep_thread`, `set_thread_priority` and collect leave every object
-sleep-as : (c : ThreadOption) (k : Kernel) (ticks tick : ℕ) → (sleep_as c k ticks tick).objects ≡ k.objects
-sleep-as NoThread k ticks tick = refl
-sleep-as (SomeThread c) k ticks tick = refl
+sleep-as : (c : Option ℕ) (k : Kernel) (ticks tick : ℕ) → (sleep_as c k ticks tick).objects ≡ k.objects
+sleep-as None k ticks tick = refl
+sleep-as (Some c) k ticks tick = refl
 
-since_as : (c : ThreadOption) (k : Kernel) (tick : ℕ) → (runs_since c k tick).objects ≡ k.objects
-since_as NoThread k tick = refl
-since_as (SomeThread c) k tick = refl
+since_as : (c : Option ℕ) (k : Kernel) (tick : ℕ) → (runs_since c k tick).objects ≡ k.objects
+since_as None k tick = refl
+since_as (Some c) k tick = refl
 
-sleep-for : (d : TickOption) (k : Kernel) (tick : ℕ) → (sleep_for d k tick).objects ≡ k.objects
+sleep-for : (d : Option Ticks) (k : Kernel) (tick : ℕ) → (sleep_for d k tick).objects ≡ k.objects
 unfolding sleep_current
-sleep-for NoTick k tick = since_as k.current_thread k tick
-sleep-for (SomeTick d) k tick = sleep-as k.current_thread k d.0 tick
+sleep-for None k tick = since_as k.current_thread k tick
+sleep-for (Some d) k tick = sleep-as k.current_thread k d.0 tick
 
 pub sleep_thread-objects : (k : Kernel) (r : Registers) (tick : ℕ) → (sleep_thread k r tick).kernel.objects ≡ k.objects
 unfolding sleep_thread
 sleep_thread-objects k r tick = sleep-for (sleep_ticks k (pair r.r0 r.r1) tick) k tick
 
-priority_as : (c : ThreadOption) (k : Kernel) (p : ℕ) → (set_priority_as c k p).kernel.objects ≡ k.objects
+priority_as : (c : Option ℕ) (k : Kernel) (p : ℕ) → (set_priority_as c k p).kernel.objects ≡ k.objects
 unfolding thread.set_priority
-priority_as NoThread k p = refl
-priority_as (SomeThread c) k p = refl
+priority_as None k p = refl
+priority_as (Some c) k p = refl
 
 pub set_thread_priority-objects : (k : Kernel) (r : Registers) → (set_thread_priority k r).kernel.objects ≡ k.objects
 unfolding set_thread_priority
 set_thread_priority-objects k r = priority_as (resolve_thread k r.r0) k r.r1
 
-collect-as : (c : ThreadOption) (k : Kernel) → (collect_as c k).objects ≡ k.objects
-collect-as NoThread k = refl
-collect-as (SomeThread c) k = refl
+collect-as : (c : Option ℕ) (k : Kernel) → (collect_as c k).objects ≡ k.objects
+collect-as None k = refl
+collect-as (Some c) k = refl
 
 pub collect-objects : (k : Kernel) → (collect k).objects ≡ k.objects
 unfolding collect

@@ -1,10 +1,9 @@
 -- The calls on timers: each of the three that name a timer fires first, and only a timer that is set or cancelled has another clock after.
-use Rattle.std.specs.Prelude.{◌≡◌, refl, true, false, ◌≢◌, List, eqb, length}
+use Rattle.std.specs.Prelude.{◌≡◌, refl, true, false, ◌≢◌, List, eqb, length, None}
 use Rattle.std.proofs.Common.{ap, sym, subst, ◌∙◌, inl, inr, arith, eqb-true}
 use Prim.Native.Nat.{ℕ, zero, suc, ◌+◌, ◌≤◌, ◌<◌}
 use Rattle.laws.specs.Logic.{lt-cases}
 use Rattle.units.specs.Ticks.{nanos_to_ticks}
-use Rattle.types.specs.declared.thread.TickOption.TheVariants.{NoTick}
 use Rattle.types.specs.declared.object.KObject.{KObject}
 use Rattle.types.specs.declared.object.KObject.TheVariants.{Free, Thread, Event, Mutex, Semaphore, Timer, AddressArbiter, Process, ResourceLimit}
 use Rattle.types.specs.declared.object.Slot.{Slot}
@@ -41,7 +40,7 @@ set_other ResourceLimit k r a b tick o d = refl
 module _ (k : Kernel) (f : FirstFree k.objects) (o : ℕ) (u : Used k.objects o) (r : Registers) where
   pub create_timer-clock : clock_at (create_timer k r).kernel.objects o ≡ clock_at k.objects o
   unfolding create_timer
-  create_timer-clock = create_object-clock k f o u (Timer (record { reset_type = reset_from_raw r.r1; signaled = false; fire_at = NoTick; interval = record { 0 = 0 } }))
+  create_timer-clock = create_object-clock k f o u (Timer (record { reset_type = reset_from_raw r.r1; signaled = false; fire_at = None; interval = record { 0 = 0 } }))
 
   module _ (tick : ℕ) where
     pub set_timer-clock : eqb (target k r) o ≡ false → clock_at (set_timer k r tick).kernel.objects o ≡ fired_clock tick (clock_at k.objects o)

@@ -1,13 +1,11 @@
 -- `wait_synchronization1` and `wait_synchronization_n` fire timers first and leave every clock then.
-use Rattle.std.specs.Prelude.{◌≡◌, Bool, true, false, not, eqb, get_or, length, take}
+use Rattle.units.specs.declared.Ticks.{Ticks}
+use Rattle.std.specs.Prelude.{◌≡◌, Bool, true, false, not, eqb, get_or, length, take, Option, Some, None}
 use Rattle.std.proofs.Math.Path.{refl}
 use Rattle.std.proofs.Common.{sym, ◌∙◌}
 use mathlib.Core.List.{List, [], ◌∷◌}
 use Prim.Native.Nat.{ℕ}
 use Rattle.laws.specs.Logic.{pick}
-use Rattle.types.specs.declared.thread.ThreadOption.{ThreadOption}
-use Rattle.types.specs.declared.thread.ThreadOption.TheVariants.{NoThread, SomeThread}
-use Rattle.types.specs.declared.thread.TickOption.{TickOption}
 use Rattle.types.specs.declared.thread.WaitSyscall.{WaitSyscall}
 use Rattle.types.specs.declared.thread.WaitSyscall.TheVariants.{WaitSynchronization1, WaitSynchronizationN}
 use Rattle.types.specs.declared.object.ObjectStore.{ObjectStore}
@@ -19,8 +17,6 @@ use Rattle.kernel.specs.NextEvent.{contains}
 use Rattle.soundness.specs.Slots.{pick-both}
 use Rattle.soundness.specs.Fine.{add_refs-full}
 use Rattle.soundness.specs.Whole.{Parts}
-use Rattle.pass.specs.declared.IndexOption.{IndexOption}
-use Rattle.pass.specs.declared.IndexOption.TheVariants.{NoIndex, SomeIndex}
 use Rattle.pass.specs.Signal.{is_signaled, acquire, acquires}
 use Rattle.pass.specs.Waits.{satisfied_at, begin_wait_as, begin_wait}
 use Rattle.pass.specs.Asks.{padded}
@@ -56,34 +52,34 @@ acquires-leaves : (s : ObjectStore) (os : List ℕ) (w : ℕ) → Leaves s (acqu
 acquires-leaves s os w = record { full = λ e. sym (acquires-full os s w) ∙ e; overflow = acquires-sticks os s w; clock = acquires-clock os s w }
 
 -- ---- the thread is given the objects, or waits and holds them
-begin_as : (c : ThreadOption) (k : Kernel) (l : List ObjectId) (n : ℕ) (all : Bool) (time : TickOption) (tick : ℕ) → Leaves k.objects (begin_wait_as c k l n all time tick).objects
-begin_as NoThread k l n all time tick = leaves-same k.objects
-begin_as (SomeThread c) k l n all time tick = record {
+begin_as : (c : Option ℕ) (k : Kernel) (l : List ObjectId) (n : ℕ) (all : Bool) (time : Option Ticks) (tick : ℕ) → Leaves k.objects (begin_wait_as c k l n all time tick).objects
+begin_as None k l n all time tick = leaves-same k.objects
+begin_as (Some c) k l n all time tick = record {
   full = λ e. sym (add_refs-full (take n (ids l)) k.objects) ∙ e;
   overflow = λ e. sym (add_refs-overflow (take n (ids l)) k.objects) ∙ e;
   clock = add_refs-clock (take n (ids l)) k.objects;
 }
 
-unless-leaves : (k : Kernel) (c : ℕ) (os : List ℕ) (all : Bool) (nanos tick : ℕ) (call : WaitSyscall) → Leaves k.objects (wait_unless k c os all nanos tick call).kernel.objects
+unless-leaves : (k : Kernel) (c : ℕ) (os : List ℕ) (all : Bool) (nanos tick : ℕ) (call : Option WaitSyscall) → Leaves k.objects (wait_unless k c os all nanos tick call).kernel.objects
 unfolding begin_wait
 unless-leaves k c os all nanos tick call =
     pick-both (λ (v : Served). Leaves k.objects v.kernel.objects) (eqb nanos 0) _ (wait_on k c os all nanos tick call) (leaves-same k.objects)
     (begin_as k.current_thread k (padded wait_list os) (length os) all (wait_time nanos) tick)
 
-one-leaves : (c : ThreadOption) (k : Kernel) (q nanos tick : ℕ) → Leaves k.objects (wait1_as c k q nanos tick).kernel.objects
-one-leaves NoThread k q nanos tick = leaves-same k.objects
-one-leaves (SomeThread c) k q nanos tick =
-    pick-both (λ (v : Served). Leaves k.objects v.kernel.objects) (is_signaled k.threads (object_at k.objects q) c) _ (wait_unless k c (q ∷ []) false nanos tick WaitSynchronization1)
-    (acquire-leaves k.objects q c) (unless-leaves k c (q ∷ []) false nanos tick WaitSynchronization1)
+one-leaves : (c : Option ℕ) (k : Kernel) (q nanos tick : ℕ) → Leaves k.objects (wait1_as c k q nanos tick).kernel.objects
+one-leaves None k q nanos tick = leaves-same k.objects
+one-leaves (Some c) k q nanos tick =
+    pick-both (λ (v : Served). Leaves k.objects v.kernel.objects) (is_signaled k.threads (object_at k.objects q) c) _ (wait_unless k c (q ∷ []) false nanos tick (Some WaitSynchronization1))
+    (acquire-leaves k.objects q c) (unless-leaves k c (q ∷ []) false nanos tick (Some WaitSynchronization1))
 
-take-leaves : (i : IndexOption) (k : Kernel) (c : ℕ) (os : List ℕ) (all : Bool) (nanos tick : ℕ) → Leaves k.objects (take_at i k c os all nanos tick).kernel.objects
-take-leaves NoIndex k c os all nanos tick = unless-leaves k c os all nanos tick WaitSynchronizationN
-take-leaves (SomeIndex i) k c os all nanos tick =
+take-leaves : (i : Option ℕ) (k : Kernel) (c : ℕ) (os : List ℕ) (all : Bool) (nanos tick : ℕ) → Leaves k.objects (take_at i k c os all nanos tick).kernel.objects
+take-leaves None k c os all nanos tick = unless-leaves k c os all nanos tick (Some WaitSynchronizationN)
+take-leaves (Some i) k c os all nanos tick =
     pick-both (Leaves k.objects) all (acquires k.objects os c) (acquire k.objects (get_or os i 0) c) (acquires-leaves k.objects os c) (acquire-leaves k.objects (get_or os i 0) c)
 
-many-leaves : (c : ThreadOption) (k : Kernel) (os : List ℕ) (all : Bool) (nanos tick : ℕ) → Leaves k.objects (wait_nas c k os all nanos tick).kernel.objects
-many-leaves NoThread k os all nanos tick = leaves-same k.objects
-many-leaves (SomeThread c) k os all nanos tick = take-leaves (satisfied_at k.threads k.objects c all os) k c os all nanos tick
+many-leaves : (c : Option ℕ) (k : Kernel) (os : List ℕ) (all : Bool) (nanos tick : ℕ) → Leaves k.objects (wait_nas c k os all nanos tick).kernel.objects
+many-leaves None k os all nanos tick = leaves-same k.objects
+many-leaves (Some c) k os all nanos tick = take-leaves (satisfied_at k.threads k.objects c all os) k c os all nanos tick
 
 -- ---- `wait_synchronization1`
 module _ (k : Kernel) (f : FirstFree k.objects) (o : ℕ) (u : Used k.objects o) where

@@ -6,16 +6,17 @@ pub mod results;
 ghost use Rattle.std.specs.Prelude.{◌≡◌, [], ◌++◌, length};
 ghost use Rattle.codec.specs.Bytes.{bytes};
 ghost use Rattle.types.specs.Thread.{result_number, result_index, syscall_number};
+ghost use Rattle.types.specs.Refusal.{found_in};
 ghost use Rattle.lent.specs.Lent.{lent, back};
 ghost use Rattle.lent.specs.Guest as def;
 
 use codec::Two;
 use lent::questions;
+use types::refusal::Refusal;
 use types::thread::{WaitResult, WaitSyscall};
 
 // The result, its index, and the kind of the call that waited.
-fn put_collected(answer: &mut [u8], res: WaitResult, call: WaitSyscall)
-    requires { length answer.old ≡ 12 }
+fn put_collected(answer: &mut [u8; 12], res: Option<WaitResult>, call: Option<WaitSyscall>)
     ensures { answer.new ≡ (bytes 4 (result_number res) ++ bytes 4 (result_index res)) ++ bytes 4 (syscall_number call) }
 {
     let number = types::thread::result_number(res);
@@ -25,27 +26,37 @@ fn put_collected(answer: &mut [u8], res: WaitResult, call: WaitSyscall)
     codec::put32(answer, 8, kind);
 }
 
-pub fn operate(block: &mut [u8], answer: &mut [u8]) -> u32
-    ensures { back result (lent block.new [] [] [] answer.new) ≡ def.collect (lent block.old [] [] [] answer.old) }
+fn work(block: &mut [u8], answer: &mut [u8]) -> Result<(), Refusal>
+    ensures { back (found_in result) (lent block.new [] [] [] answer.new) ≡ def.collect (lent block.old [] [] [] answer.old) }
 {
-    if block.len() != 16384 {
-        return 1;
-    }
-    if answer.len() != 12 {
-        return 1;
-    }
+    let Some(block) = block.as_mut_array::<16384>() else {
+        return Err(Refusal::Length);
+    };
+    let Some(answer) = answer.as_mut_array::<12>() else {
+        return Err(Refusal::Length);
+    };
     if !questions::block_ok(block) {
-        return 2;
+        return Err(Refusal::Unsound);
     }
     if !table::questions::runs(block) {
-        return 4;
+        return Err(Refusal::NoThread);
     }
     if outcome::out_of_handles(block) {
-        return 8;
+        return Err(Refusal::Overflow);
     }
     let result = results::collected_result(block);
     let call = results::collected_syscall(block);
     results::collect(block);
     put_collected(answer, result, call);
-    0
+    Ok(())
+}
+
+// The work as C gets it: 0, or the number of the refusal.
+pub fn operate(block: &mut [u8], answer: &mut [u8]) -> u32
+    ensures { back result (lent block.new [] [] [] answer.new) ≡ def.collect (lent block.old [] [] [] answer.old) }
+{
+    match work(block, answer) {
+        Ok(()) => 0,
+        Err(r) => u32::from(r),
+    }
 }

@@ -1,5 +1,5 @@
 // Collect: the current thread's recorded result of a wait and the call that it was for are handed out and cleared.
-ghost use Rattle.std.specs.Prelude.{◌≡◌, true, length};
+ghost use Rattle.std.specs.Prelude.{◌≡◌, true, length, None};
 ghost use Rattle.block.specs.Block.{dec_block};
 ghost use Rattle.sound.specs.View.{thread_at};
 ghost use Rattle.sound.specs.Question.{sound?};
@@ -8,96 +8,84 @@ ghost use Rattle.svc.specs.Collect as def;
 ghost use Rattle.rows.specs.Rows.{thread_put};
 ghost use Rattle.rows.specs.Holds.{Holds};
 
+use block::Block;
 use rows::{read, write};
-use types::thread::{ThreadOption, WaitResult, WaitSyscall};
+use types::thread::{WaitResult, WaitSyscall};
 
 // A number past the places names no thread.
-fn result_at(block: &[u8], c: u32) -> WaitResult
-    requires { length block.now ≡ 16384 }
+fn result_at(block: &Block, c: u32) -> Option<WaitResult>
     ensures { result ≡ (thread_at (dec_block block.now).threads c).wait_result }
 {
     if 32 <= c {
-        return WaitResult::NoResult;
+        return None;
     }
     let t = read::thread_at(block, c);
     t.wait_result
 }
 
-fn result_as(current: ThreadOption, block: &[u8]) -> WaitResult
-    requires { length block.now ≡ 16384 }
+fn result_as(current: Option<u32>, block: &Block) -> Option<WaitResult>
     ensures { result ≡ def.result_as current (dec_block block.now) }
 {
     match current {
-        ThreadOption::NoThread => WaitResult::NoResult,
-        ThreadOption::SomeThread(c) => result_at(block, c),
+        None => None,
+        Some(c) => result_at(block, c),
     }
 }
 
-pub fn collected_result(block: &[u8]) -> WaitResult
-    requires { length block.now ≡ 16384 }
+pub fn collected_result(block: &Block) -> Option<WaitResult>
     ensures { result ≡ def.collected_result (dec_block block.now) }
 {
     let current = read::current(block);
     result_as(current, block)
 }
 
-fn syscall_at(block: &[u8], c: u32) -> WaitSyscall
-    requires { length block.now ≡ 16384 }
+fn syscall_at(block: &Block, c: u32) -> Option<WaitSyscall>
     ensures { result ≡ (thread_at (dec_block block.now).threads c).wait_syscall }
 {
     if 32 <= c {
-        return WaitSyscall::NoSyscall;
+        return None;
     }
     let t = read::thread_at(block, c);
     t.wait_syscall
 }
 
-fn syscall_as(current: ThreadOption, block: &[u8]) -> WaitSyscall
-    requires { length block.now ≡ 16384 }
+fn syscall_as(current: Option<u32>, block: &Block) -> Option<WaitSyscall>
     ensures { result ≡ def.syscall_as current (dec_block block.now) }
 {
     match current {
-        ThreadOption::NoThread => WaitSyscall::NoSyscall,
-        ThreadOption::SomeThread(c) => syscall_at(block, c),
+        None => None,
+        Some(c) => syscall_at(block, c),
     }
 }
 
-pub fn collected_syscall(block: &[u8]) -> WaitSyscall
-    requires { length block.now ≡ 16384 }
+pub fn collected_syscall(block: &Block) -> Option<WaitSyscall>
     ensures { result ≡ def.collected_syscall (dec_block block.now) }
 {
     let current = read::current(block);
     syscall_as(current, block)
 }
 
-fn clear_at(block: &mut [u8], c: u32)
-    requires { length block.old ≡ 16384 }
-    ensures { block.new ≡ thread_put block.old c (with_result (thread_at (dec_block block.old).threads c) WaitResult.NoResult WaitSyscall.NoSyscall) }
+fn clear_at(block: &mut Block, c: u32)
+    ensures { block.new ≡ thread_put block.old c (with_result (thread_at (dec_block block.old).threads c) None None) }
 {
     if 32 <= c {
         return;
     }
     let t = read::thread_at(block, c);
-    write::put_thread(
-        block,
-        c,
-        thread::thread::with_result(t, WaitResult::NoResult, WaitSyscall::NoSyscall),
-    );
+    write::put_thread(block, c, thread::thread::with_result(t, None, None));
 }
 
-fn collect_as(current: ThreadOption, block: &mut [u8])
-    requires block_len { length block.old ≡ 16384 }
+fn collect_as(current: Option<u32>, block: &mut Block)
     requires block_value { sound? block.old ≡ true }
     ensures { Holds block.new (def.collect_as current (dec_block block.old)) }
 {
     match current {
-        ThreadOption::NoThread => {}
-        ThreadOption::SomeThread(c) => clear_at(block, c),
+        None => {}
+        Some(c) => clear_at(block, c),
     }
 }
 
-pub fn collect(block: &mut [u8])
-    requires block_len { length block.old ≡ 16384 }
+pub fn collect(block: &mut Block)
     requires block_value { sound? block.old ≡ true }
     ensures { Holds block.new (def.collect (dec_block block.old)) }
 {

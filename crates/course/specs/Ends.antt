@@ -1,5 +1,5 @@
 -- A wait ends by time-out exactly at the first accepted pass from its wake tick on, if nothing was given by then.
-use Rattle.std.specs.Prelude.{◌≡◌, Bool, List, [], ◌∷◌, ℕ, zero, suc, ◌<◌, take}
+use Rattle.std.specs.Prelude.{◌≡◌, Bool, List, [], ◌∷◌, ℕ, zero, suc, ◌<◌, take, Some}
 use Rattle.std.proofs.Math.Path.{refl, ap, sym, subst}
 use Rattle.std.proofs.Common.{◌∙◌, arith}
 use Rattle.std.proofs.Math.Bool.{true, false}
@@ -7,7 +7,6 @@ use borrow.Author.Tests.{eqb-false, le-leb, lt-leb}
 use Rattle.laws.specs.Logic.{◌and◌, true-and, and_no, and-false, false-true}
 use Rattle.types.specs.declared.thread.ThreadStatus.{ThreadStatus}
 use Rattle.types.specs.declared.thread.ThreadStatus.TheVariants.{Dead, Running, Ready, Sleeping, WaitSync, WaitArbiter, Dormant}
-use Rattle.types.specs.declared.thread.TickOption.TheVariants.{SomeTick}
 use Rattle.types.specs.declared.kernel.Kernel.{Kernel}
 use Rattle.types.specs.Thread.{is_blocked}
 use Rattle.sound.specs.View.{ids, thread_at}
@@ -31,7 +30,7 @@ use Rattle.course.specs.Course.{effect, Asked, Course, event}
 -- thread τ is in a wait for a that runs out at w
 pub record InWait (τ w : ℕ) (a : Awaited) (k : Kernel) : Type 0 where
   pub is : Blocked k.threads τ
-  pub wake : (thread_at k.threads τ).wakeup_at ≡ SomeTick (record { 0 = w })
+  pub wake : (thread_at k.threads τ).wakeup_at ≡ Some (record { 0 = w })
   pub for : awaited_by (thread_at k.threads τ) ≡ a
 
 in_as : (τ w : ℕ) (a : Awaited) (k m : Kernel) → wait_of (thread_at m.threads τ) ≡ wait_of (thread_at k.threads τ) → InWait τ w a k → InWait τ w a m

@@ -1,10 +1,9 @@
 -- The three parts of demand 3 that speak of what comes after an operation.
-use Rattle.std.specs.Prelude.{◌≡◌, true, ℕ, ◌+◌}
+use Rattle.std.specs.Prelude.{◌≡◌, true, ℕ, ◌+◌, Some}
 use Rattle.std.proofs.Math.Path.{ap, subst}
 use Rattle.std.proofs.Common.{sym, ◌∙◌}
 use mathlib.Core.List.{List, []}
 use Rattle.units.specs.Ticks.{nanos_to_ticks}
-use Rattle.types.specs.declared.thread.ThreadOption.TheVariants.{SomeThread}
 use Rattle.types.specs.declared.kernel.Kernel.{Kernel}
 use Rattle.types.specs.Thread.{is_blocked}
 use Rattle.sound.specs.View.{thread_at}
@@ -48,9 +47,9 @@ module _ (e : Event) (es : List Event) (real : Real e) (course : Course e.after 
             ∙ call-wake b.number e.before x b.words t (sound-parts e.before a.0) a.1 τ b.who p (timed_read b.number b.registers ∙ b.wait) m
             ∙ ap (λ (y : ℕ). runs_out y t) n-is;
         for =
-            subst (λ (y : Kernel). awaited_by (thread_at y.threads τ) ≡ asks_for b.number b.registers b.words (named (SomeThread τ) e.before.handles y.objects)) (sym f)
+            subst (λ (y : Kernel). awaited_by (thread_at y.threads τ) ≡ asks_for b.number b.registers b.words (named (Some τ) e.before.handles y.objects)) (sym f)
             (call_asks b.number e.before x b.words t a.3 (timed_read b.number b.registers ∙ b.wait) a.1 τ b.who p
-            ∙ asks_read b.number b.registers b.words (named (SomeThread τ) e.before.handles (call b.number e.before x b.words t).kernel.objects));
+            ∙ asks_read b.number b.registers b.words (named (Some τ) e.before.handles (call b.number e.before x b.words t).kernel.objects));
       }
 
   pub ends : Ends e es

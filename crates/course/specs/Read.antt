@@ -1,11 +1,10 @@
 -- The call table hides none of the registers that the words of the demand look at.
-use Rattle.std.specs.Prelude.{◌≡◌, not, List, [], ◌∷◌, map, ℕ}
+use Rattle.std.specs.Prelude.{◌≡◌, not, List, [], ◌∷◌, map, ℕ, Some}
 use Rattle.std.proofs.Math.Path.{refl, ap}
 use Rattle.std.proofs.Math.Bool.{Bool, true, false}
 use Rattle.std.proofs.Math.Dec.{eqb}
 use Rattle.std.proofs.Common.{eqb-true}
 use Rattle.laws.specs.Logic.{pick, ◌and◌, ◌or◌}
-use Rattle.types.specs.declared.thread.AddressOption.TheVariants.{SomeAddress}
 use Rattle.types.specs.declared.kernel.Kernel.{Kernel}
 use Rattle.svc.specs.declared.Registers.{Registers}
 use Rattle.svc.specs.Table.{table, row_in, row_of}
@@ -41,7 +40,7 @@ module _ (number : ℕ) (r : Registers) where
   unfolding row_of row_in table
   asks_read words name =
       pick-read (eqb number 0x0A) _ _ _ _ (λ e. refl)
-      (pick-read (eqb number 0x22) _ _ _ _ (λ e. ap (λ (m : ℕ). signal (SomeAddress (given m r).r1)) (eqb-true number 0x22 e))
+      (pick-read (eqb number 0x22) _ _ _ _ (λ e. ap (λ (m : ℕ). signal (Some (given m r).r1)) (eqb-true number 0x22 e))
       (pick-read (eqb number 0x24) _ _ _ _ (λ e. ap (λ (m : ℕ). objects false (name (given m r).r0 ∷ [])) (eqb-true number 0x24 e))
       (pick-read (eqb number 0x25) _ _ _ _ (λ e. ap (λ (m : ℕ). objects (not (eqb (given m r).r3 0)) (map name words)) (eqb-true number 0x25 e)) refl)))
 

@@ -5,15 +5,18 @@ ghost use Rattle.std.specs.Prelude.{◌≡◌, [], ◌*◌, ◌<◌, length};
 ghost use Rattle.codec.specs.Bytes.{bytes, over};
 ghost use Rattle.block.specs.Context.{enc_context};
 ghost use Rattle.thread.specs.Thread.{new_context};
+ghost use Rattle.types.specs.Refusal.{found_in};
 ghost use Rattle.lent.specs.Lent.{lent, back};
 ghost use Rattle.lent.specs.Operations.{create_thread};
 
+use block::context::Bank;
 use lent::questions;
+use types::refusal::Refusal;
 
 // The row of the bank and the number.
 fn put_made(
-    bank: &mut [u8],
-    answer: &mut [u8],
+    bank: &mut Bank,
+    answer: &mut [u8; 4],
     word: u32,
     id: u32,
     tls: u32,
@@ -21,18 +24,49 @@ fn put_made(
     stack_top: u32,
     arg: u32,
 )
-    requires bank_len { length bank.old ≡ 6656 }
-    requires answer_len { length answer.old ≡ 4 }
     requires id_bound { id < 32 }
     ensures bank_after { bank.new ≡ over bank.old (id * 208) (enc_context (new_context word entry stack_top arg tls)) }
     ensures answer_after { answer.new ≡ bytes 4 id }
 {
-    let context = thread::thread::new_context(word, entry, stack_top, arg, tls);
+    let context = thread::create::new_context(word, entry, stack_top, arg, tls);
     block::context::put_row(bank, id, context);
     codec::put32(answer, 0, id);
 }
 
 // A thread that is ready to start at entry.
+fn work(
+    block: &mut [u8],
+    bank: &mut [u8],
+    answer: &mut [u8],
+    entry: u32,
+    stack_top: u32,
+    arg: u32,
+    priority: u32,
+    processor_id: u32,
+) -> Result<(), Refusal>
+    ensures { back (found_in result) (lent block.new bank.new [] [] answer.new) ≡ create_thread entry stack_top arg priority processor_id (lent block.old bank.old [] [] answer.old) }
+{
+    let Some(block) = block.as_mut_array::<16384>() else {
+        return Err(Refusal::Length);
+    };
+    let Some(bank) = bank.as_mut_array::<6656>() else {
+        return Err(Refusal::Length);
+    };
+    let Some(answer) = answer.as_mut_array::<4>() else {
+        return Err(Refusal::Length);
+    };
+    if !questions::block_ok(block) {
+        return Err(Refusal::Unsound);
+    }
+    let word = codec::get32(block, 0);
+    let id = vacant::ended_thread(block);
+    let tls = vacant::tls_slot(block);
+    spawn::create_thread(block, id, tls, entry, stack_top, priority, processor_id)?;
+    put_made(bank, answer, word, id, tls, entry, stack_top, arg);
+    Ok(())
+}
+
+// The work as C gets it: 0, or the number of the refusal.
 pub fn operate(
     block: &mut [u8],
     bank: &mut [u8],
@@ -45,25 +79,17 @@ pub fn operate(
 ) -> u32
     ensures { back result (lent block.new bank.new [] [] answer.new) ≡ create_thread entry stack_top arg priority processor_id (lent block.old bank.old [] [] answer.old) }
 {
-    if block.len() != 16384 {
-        return 1;
+    match work(
+        block,
+        bank,
+        answer,
+        entry,
+        stack_top,
+        arg,
+        priority,
+        processor_id,
+    ) {
+        Ok(()) => 0,
+        Err(r) => u32::from(r),
     }
-    if bank.len() != 6656 {
-        return 1;
-    }
-    if answer.len() != 4 {
-        return 1;
-    }
-    if !questions::block_ok(block) {
-        return 2;
-    }
-    let word = codec::get32(block, 0);
-    let id = vacant::ended_thread(block);
-    let tls = vacant::tls_slot(block);
-    let found = spawn::create_thread(block, id, tls, entry, stack_top, priority, processor_id);
-    if found != 0 {
-        return found;
-    }
-    put_made(bank, answer, word, id, tls, entry, stack_top, arg);
-    0
 }

@@ -1,20 +1,15 @@
 -- 0x22: kind 0 wakes threads that are parked at the address, the others park the current thread.
-use Rattle.std.specs.Prelude.{◌≡◌, refl, Bool, true, false, not, cond, ◌≢◌, ℕ, zero, suc, ◌+◌, ◌<◌, eqb, ltb, length}
+use Rattle.units.specs.declared.Ticks.{Ticks}
+use Rattle.std.specs.Prelude.{◌≡◌, refl, Bool, true, false, not, cond, ◌≢◌, ℕ, zero, suc, ◌+◌, ◌<◌, eqb, ltb, length, Option, Some, None}
 use Rattle.std.proofs.Common.{ap, sym, subst, ◌∙◌, inl, inr, arith}
 use mathlib.Core.List.{List, [], ◌∷◌, ◌++◌}
 use Rattle.laws.specs.Logic.{pick, pick_yes, pick_no, ◌and◌, ◌or◌, and-true, true-and, false-true}
 use Rattle.units.specs.Ticks.{nanos_to_ticks}
-use Rattle.types.specs.declared.thread.ThreadOption.{ThreadOption}
-use Rattle.types.specs.declared.thread.ThreadOption.TheVariants.{NoThread, SomeThread}
-use Rattle.types.specs.declared.thread.TickOption.{TickOption}
-use Rattle.types.specs.declared.thread.TickOption.TheVariants.{NoTick, SomeTick}
 use Rattle.types.specs.declared.thread.ThreadStatus.{ThreadStatus}
 use Rattle.types.specs.declared.thread.ThreadStatus.TheVariants.{Dead, Running, Ready, Sleeping, WaitSync, WaitArbiter, Dormant}
 use Rattle.types.specs.declared.thread.Thread.{Thread}
 use Rattle.types.specs.declared.sync.ArbitrationType.{ArbitrationType}
 use Rattle.types.specs.declared.sync.ArbitrationType.TheVariants.{Signal, WaitIfLessThan, DecrementAndWaitIfLessThan, WaitIfLessThanWithTimeout, DecrementAndWaitIfLessThanWithTimeout}
-use Rattle.types.specs.declared.sync.ArbitrationOption.{ArbitrationOption}
-use Rattle.types.specs.declared.sync.ArbitrationOption.TheVariants.{NoArbitration, SomeArbitration}
 use Rattle.types.specs.declared.object.Waiter.{Waiter}
 use Rattle.types.specs.declared.object.ObjectStore.{ObjectStore}
 use Rattle.types.specs.declared.kernel.Kernel.{Kernel}
@@ -46,9 +41,9 @@ woken_for DecrementAndWaitIfLessThan k x r = []
 woken_for WaitIfLessThanWithTimeout k x r = []
 woken_for DecrementAndWaitIfLessThanWithTimeout k x r = []
 
-abbrev pub woken_if : ArbitrationOption → Kernel → Registers → List ℕ
-woken_if NoArbitration k r = []
-woken_if (SomeArbitration kind) k r = woken_for kind k (resolved k r.r0) r
+abbrev pub woken_if : Option ArbitrationType → Kernel → Registers → List ℕ
+woken_if None k r = []
+woken_if (Some kind) k r = woken_for kind k (resolved k r.r0) r
 
 module _ (ts : List Thread) (ws : List Waiter) (a value : ℕ) where
   -- every thread of the list is parked at the address
@@ -131,25 +126,25 @@ signal-effect k o a value timed n tick =
     }
 
 -- ---- kinds 1 to 4
-park-other : (t : ThreadOption) (k : Kernel) (o a : ℕ) (time : TickOption) (tick w : ℕ) → t ≢ SomeThread w → thread_at (park_as t k o a time tick).threads w ≡ thread_at k.threads w
-park-other NoThread k o a time tick w h = refl
-park-other (SomeThread c) k o a time tick w h = thread-other k.threads c w _ (λ e. h (ap SomeThread (sym e)))
+park-other : (t : Option ℕ) (k : Kernel) (o a : ℕ) (time : Option Ticks) (tick w : ℕ) → t ≢ Some w → thread_at (park_as t k o a time tick).threads w ≡ thread_at k.threads w
+park-other None k o a time tick w h = refl
+park-other (Some c) k o a time tick w h = thread-other k.threads c w _ (λ e. h (ap Some (sym e)))
 
-park-own : (k : Kernel) (c : ℕ) → k.current_thread ≡ SomeThread c → c < length k.threads → (o a : ℕ) (time : TickOption) (tick : ℕ)
+park-own : (k : Kernel) (c : ℕ) → k.current_thread ≡ Some c → c < length k.threads → (o a : ℕ) (time : Option Ticks) (tick : ℕ)
     → (thread_at (park k o a time tick).threads c).wakeup_at ≡ wake_tick time tick
 park-own k c e l o a time tick =
-    ap (λ (t : ThreadOption). (thread_at (park_as t k o a time tick).threads c).wakeup_at) e
+    ap (λ (t : Option ℕ). (thread_at (park_as t k o a time tick).threads c).wakeup_at) e
     ∙ ap (λ (t : Thread). t.wakeup_at) (thread-same k.threads c (parked (thread_at k.threads c) a (wake_tick time tick)) l)
 
-park-relief : (t : ThreadOption) (k : Kernel) (o a : ℕ) (time : TickOption) (tick : ℕ) → (park_as t k o a time tick).relief ≡ k.relief
-park-relief NoThread k o a time tick = refl
-park-relief (SomeThread c) k o a time tick = refl
+park-relief : (t : Option ℕ) (k : Kernel) (o a : ℕ) (time : Option Ticks) (tick : ℕ) → (park_as t k o a time tick).relief ≡ k.relief
+park-relief None k o a time tick = refl
+park-relief (Some c) k o a time tick = refl
 
 park-time : (kind : ArbitrationType) (n tick : ℕ) → has_timeout kind ≡ true → Timed n tick → wake_tick (park_time kind n) tick ≡ runs_out n tick
 park-time kind n tick t s =
-    ap (λ (d : TickOption). wake_tick d tick)
-    (pick_yes (has_timeout kind and not (negative n)) (SomeTick (nanos_to_ticks (record { 0 = n }))) NoTick (true-and (has_timeout kind) (not (negative n)) t (ap not (timed_negative n tick s))))
-    ∙ ap (λ (m : ℕ). SomeTick (record { 0 = m })) (timed_out n tick s)
+    ap (λ (d : Option Ticks). wake_tick d tick)
+    (pick_yes (has_timeout kind and not (negative n)) (Some (nanos_to_ticks (record { 0 = n }))) None (true-and (has_timeout kind) (not (negative n)) t (ap not (timed_negative n tick s))))
+    ∙ ap (λ (m : ℕ). Some (record { 0 = m })) (timed_out n tick s)
 
 abbrev Below : ArbitrationType → Kernel → ℕ → ℕ → Served → Type 0
 Below kind k n tick x = Effect k [] true (has_timeout kind) n tick x.kernel
@@ -168,9 +163,9 @@ below-effect kind k o a value word n tick =
     (same_effect k k (record { threads = refl; relief = refl }) true (has_timeout kind) n tick)
 
 -- ---- the call
-abbrev pub timed_kind : ArbitrationOption → Bool
-timed_kind NoArbitration = false
-timed_kind (SomeArbitration kind) = has_timeout kind
+abbrev pub timed_kind : Option ArbitrationType → Bool
+timed_kind None = false
+timed_kind (Some kind) = has_timeout kind
 
 -- they are parked at the address
 for-parked : (kind : ArbitrationType) (k : Kernel) (x : Resolved) (r : Registers) (w : ℕ) → contains (woken_for kind k x r) w ≡ true → parked_at (thread_at k.threads w) r.r1 ≡ true
@@ -185,37 +180,37 @@ for-parked DecrementAndWaitIfLessThan k x r w e = false-true e
 for-parked WaitIfLessThanWithTimeout k x r w e = false-true e
 for-parked DecrementAndWaitIfLessThanWithTimeout k x r w e = false-true e
 
-pub if_parked : (o : ArbitrationOption) (k : Kernel) (r : Registers) (w : ℕ) → contains (woken_if o k r) w ≡ true → parked_at (thread_at k.threads w) r.r1 ≡ true
+pub if_parked : (o : Option ArbitrationType) (k : Kernel) (r : Registers) (w : ℕ) → contains (woken_if o k r) w ≡ true → parked_at (thread_at k.threads w) r.r1 ≡ true
 unfolding contains
-if_parked NoArbitration k r w e = false-true e
-if_parked (SomeArbitration kind) k r w e = for-parked kind k (resolved k r.r0) r w e
+if_parked None k r w e = false-true e
+if_parked (Some kind) k r w e = for-parked kind k (resolved k r.r0) r w e
 
 -- and only kind 0 wakes any
-abbrev is_signal : ArbitrationOption → Bool
-is_signal NoArbitration = false
-is_signal (SomeArbitration Signal) = true
-is_signal (SomeArbitration WaitIfLessThan) = false
-is_signal (SomeArbitration DecrementAndWaitIfLessThan) = false
-is_signal (SomeArbitration WaitIfLessThanWithTimeout) = false
-is_signal (SomeArbitration DecrementAndWaitIfLessThanWithTimeout) = false
+abbrev is_signal : Option ArbitrationType → Bool
+is_signal None = false
+is_signal (Some Signal) = true
+is_signal (Some WaitIfLessThan) = false
+is_signal (Some DecrementAndWaitIfLessThan) = false
+is_signal (Some WaitIfLessThanWithTimeout) = false
+is_signal (Some DecrementAndWaitIfLessThanWithTimeout) = false
 
-woken-signal : (o : ArbitrationOption) (k : Kernel) (r : Registers) (w : ℕ) → contains (woken_if o k r) w ≡ true → is_signal o ≡ true
+woken-signal : (o : Option ArbitrationType) (k : Kernel) (r : Registers) (w : ℕ) → contains (woken_if o k r) w ≡ true → is_signal o ≡ true
 unfolding contains
-woken-signal NoArbitration k r w e = e
-woken-signal (SomeArbitration Signal) k r w e = refl
-woken-signal (SomeArbitration WaitIfLessThan) k r w e = e
-woken-signal (SomeArbitration DecrementAndWaitIfLessThan) k r w e = e
-woken-signal (SomeArbitration WaitIfLessThanWithTimeout) k r w e = e
-woken-signal (SomeArbitration DecrementAndWaitIfLessThanWithTimeout) k r w e = e
+woken-signal None k r w e = e
+woken-signal (Some Signal) k r w e = refl
+woken-signal (Some WaitIfLessThan) k r w e = e
+woken-signal (Some DecrementAndWaitIfLessThan) k r w e = e
+woken-signal (Some WaitIfLessThanWithTimeout) k r w e = e
+woken-signal (Some DecrementAndWaitIfLessThanWithTimeout) k r w e = e
 
 signal_raw : (n : ℕ) → is_signal (arbitration_from_raw n) ≡ true → eqb n 0 ≡ true
 signal_raw n e = go (eqb n 0) (eqb n 1) (eqb n 2) (eqb n 3) (eqb n 4) e
   where
     go : (a b c d f : Bool)
         → is_signal
-        (cond a (SomeArbitration Signal)
-        (cond b (SomeArbitration WaitIfLessThan)
-        (cond c (SomeArbitration DecrementAndWaitIfLessThan) (cond d (SomeArbitration WaitIfLessThanWithTimeout) (cond f (SomeArbitration DecrementAndWaitIfLessThanWithTimeout) NoArbitration)))))
+        (cond a (Some Signal)
+        (cond b (Some WaitIfLessThan)
+        (cond c (Some DecrementAndWaitIfLessThan) (cond d (Some WaitIfLessThanWithTimeout) (cond f (Some DecrementAndWaitIfLessThanWithTimeout) None)))))
         ≡ true → a ≡ true
     go true b c d f h = refl
     go false true c d f h = h
@@ -252,9 +247,9 @@ module _ (k : Kernel) (x : Resolved) (r : Registers) (word tick : ℕ) where
   for-effect WaitIfLessThanWithTimeout = below WaitIfLessThanWithTimeout
   for-effect DecrementAndWaitIfLessThanWithTimeout = below DecrementAndWaitIfLessThanWithTimeout
 
-by_effect : (o : ArbitrationOption) (k : Kernel) (r : Registers) (word tick : ℕ) → Effect k (woken_if o k r) true (timed_kind o) (pair r.r4 r.r5) tick (arbitrate_by o k r word tick).kernel
-by_effect NoArbitration k r word tick = same_effect k k (record { threads = refl; relief = refl }) true false (pair r.r4 r.r5) tick
-by_effect (SomeArbitration kind) k r word tick = for-effect k (resolved k r.r0) r word tick kind
+by_effect : (o : Option ArbitrationType) (k : Kernel) (r : Registers) (word tick : ℕ) → Effect k (woken_if o k r) true (timed_kind o) (pair r.r4 r.r5) tick (arbitrate_by o k r word tick).kernel
+by_effect None k r word tick = same_effect k k (record { threads = refl; relief = refl }) true false (pair r.r4 r.r5) tick
+by_effect (Some kind) k r word tick = for-effect k (resolved k r.r0) r word tick kind
 
 pub arbitrate_effect : (k : Kernel) (r : Registers) (word tick : ℕ)
     → Effect k (woken_if (arbitration_from_raw r.r2) k r) true (timed_kind (arbitration_from_raw r.r2)) (pair r.r4 r.r5) tick (arbitrate_address k r word tick).kernel

@@ -1,12 +1,9 @@
 -- What a guest call does to the threads that wait, so that it is one fact for every call.
-use Rattle.std.specs.Prelude.{◌≡◌, refl, Bool, true, false, ◌≢◌, List, [], ℕ, ◌+◌, ◌≤◌, ◌<◌, eqb, length}
+use Rattle.units.specs.declared.Ticks.{Ticks}
+use Rattle.std.specs.Prelude.{◌≡◌, refl, Bool, true, false, ◌≢◌, List, [], ℕ, ◌+◌, ◌≤◌, ◌<◌, eqb, length, Option, Some}
 use Rattle.std.proofs.Common.{ap, sym, ◌∙◌, arith, ne_eqb, le-ltb}
 use Rattle.laws.specs.Logic.{false-true}
 use Rattle.units.specs.Ticks.{nanos_to_ticks}
-use Rattle.types.specs.declared.thread.ThreadOption.{ThreadOption}
-use Rattle.types.specs.declared.thread.ThreadOption.TheVariants.{SomeThread}
-use Rattle.types.specs.declared.thread.TickOption.{TickOption}
-use Rattle.types.specs.declared.thread.TickOption.TheVariants.{SomeTick}
 use Rattle.types.specs.declared.thread.ThreadStatus.{ThreadStatus}
 use Rattle.types.specs.declared.thread.ThreadStatus.TheVariants.{Dead, Running, Ready, Sleeping, WaitSync, WaitArbiter, Dormant}
 use Rattle.types.specs.declared.thread.Thread.{Thread}
@@ -51,13 +48,13 @@ pub running_in : (ts : List Thread) (c : ℕ) → is_running (thread_at ts c).st
 running_in ts c e = live_in ts c (running_dead (thread_at ts c).status e)
 
 -- a guest call is served only while the current thread runs (question 4), so a blocked thread is another one
-pub blocked-other : (k : Kernel) → runs? k ≡ true → (w : ℕ) → Blocked k.threads w → k.current_thread ≢ SomeThread w
+pub blocked-other : (k : Kernel) → runs? k ≡ true → (w : ℕ) → Blocked k.threads w → k.current_thread ≢ Some w
 unfolding runs?
-blocked-other k e w b h = false-true (sym (running_status (thread_at k.threads w).status (sym (ap (λ (o : ThreadOption). runs_as o k.threads) h) ∙ e)) ∙ b)
+blocked-other k e w b h = false-true (sym (running_status (thread_at k.threads w).status (sym (ap (λ (o : Option ℕ). runs_as o k.threads) h) ∙ e)) ∙ b)
 
-pub runs-current : (k : Kernel) → runs? k ≡ true → (c : ℕ) → k.current_thread ≡ SomeThread c → Runs k c
+pub runs-current : (k : Kernel) → runs? k ≡ true → (c : ℕ) → k.current_thread ≡ Some c → Runs k c
 unfolding runs?
-runs-current k e c h = sym (ap (λ (o : ThreadOption). runs_as o k.threads) h) ∙ e
+runs-current k e c h = sym (ap (λ (o : Option ℕ). runs_as o k.threads) h) ∙ e
 
 -- ---- a wait of n nanoseconds from the tick on
 -- n is not 0 and not below 0 as a signed number, and its end fits a tick
@@ -67,8 +64,8 @@ pub record Timed (n tick : ℕ) : Type 0 where
   pub fits : tick + (nanos_to_ticks (record { 0 = n })).0 < 18446744073709551616
 
 -- when it runs out
-abbrev pub runs_out : ℕ → ℕ → TickOption
-runs_out n tick = SomeTick (record { 0 = tick + (nanos_to_ticks (record { 0 = n })).0 })
+abbrev pub runs_out : ℕ → ℕ → Option Ticks
+runs_out n tick = Some (record { 0 = tick + (nanos_to_ticks (record { 0 = n })).0 })
 
 pub timed_zero : (n tick : ℕ) → Timed n tick → eqb n 0 ≡ false
 timed_zero n tick t = ne_eqb n 0 (λ e. omega (arith, e, t.least))
@@ -82,19 +79,19 @@ timed_out n tick t = saturating_is tick (nanos_to_ticks (record { 0 = n })).0 (o
 -- ---- from k to k': woken are the threads that the call wakes, parks whether the current thread may park, timed whether for n nanoseconds
 pub record Effect (k : Kernel) (woken : List ℕ) (parks timed : Bool) (n tick : ℕ) (k' : Kernel) : Type 0 where
   -- another thread's wait is as it was
-  pub waits : (w : ℕ) → Blocked k.threads w → k.current_thread ≢ SomeThread w → contains woken w ≡ false
+  pub waits : (w : ℕ) → Blocked k.threads w → k.current_thread ≢ Some w → contains woken w ≡ false
       → wait_of (thread_at k'.threads w) ≡ wait_of (thread_at k.threads w)
   pub wakes : (w : ℕ) → contains woken w ≡ true → (thread_at k'.threads w).status ≡ Ready
   -- the current thread, if it is blocked afterwards
-  pub parked : (c : ℕ) → k.current_thread ≡ SomeThread c → Runs k c → Blocked k'.threads c → parks ≡ true
-  pub wake : (c : ℕ) → k.current_thread ≡ SomeThread c → Runs k c → Blocked k'.threads c → timed ≡ true → Timed n tick
+  pub parked : (c : ℕ) → k.current_thread ≡ Some c → Runs k c → Blocked k'.threads c → parks ≡ true
+  pub wake : (c : ℕ) → k.current_thread ≡ Some c → Runs k c → Blocked k'.threads c → timed ≡ true → Timed n tick
       → (thread_at k'.threads c).wakeup_at ≡ runs_out n tick
   pub relief : k'.relief ≡ k.relief
 
 -- ---- a call that wakes nobody and parks nobody
 pub record Calm (k k' : Kernel) : Type 0 where
-  pub waits : (w : ℕ) → Blocked k.threads w → k.current_thread ≢ SomeThread w → wait_of (thread_at k'.threads w) ≡ wait_of (thread_at k.threads w)
-  pub free : (c : ℕ) → k.current_thread ≡ SomeThread c → Runs k c → is_blocked (thread_at k'.threads c).status ≡ false
+  pub waits : (w : ℕ) → Blocked k.threads w → k.current_thread ≢ Some w → wait_of (thread_at k'.threads w) ≡ wait_of (thread_at k.threads w)
+  pub free : (c : ℕ) → k.current_thread ≡ Some c → Runs k c → is_blocked (thread_at k'.threads c).status ≡ false
   pub relief : k'.relief ≡ k.relief
 
 -- has that effect, whatever it might park for

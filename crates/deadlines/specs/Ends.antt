@@ -1,11 +1,8 @@
 -- A guest call and a thread that waits: its wait goes on, or the call wakes it. And when the wait that a call begins runs out.
-use Rattle.std.specs.Prelude.{◌≡◌, refl, Bool, true, false, List, [], ℕ, eqb}
+use Rattle.std.specs.Prelude.{◌≡◌, refl, Bool, true, false, List, [], ℕ, eqb, Option, Some, None}
 use Rattle.std.proofs.Math.Path.{ap}
 use Rattle.std.proofs.Common.{eqb-true}
 use Rattle.laws.specs.Logic.{pick, ◌and◌, true-and, false-true}
-use Rattle.types.specs.declared.thread.ThreadOption.TheVariants.{SomeThread}
-use Rattle.types.specs.declared.thread.AddressOption.{AddressOption}
-use Rattle.types.specs.declared.thread.AddressOption.TheVariants.{NoAddress, SomeAddress}
 use Rattle.types.specs.declared.thread.ThreadStatus.{ThreadStatus}
 use Rattle.types.specs.declared.thread.ThreadStatus.TheVariants.{Dead, Running, Ready, Sleeping, WaitSync, WaitArbiter, Dormant}
 use Rattle.types.specs.declared.thread.Thread.{Thread}
@@ -52,9 +49,9 @@ parked-for Sleeping t a e = e
 parked-for WaitSync t a e = e
 parked-for WaitArbiter t a e = at t.wait_address e
   where
-    at : (o : AddressOption) → is_at o a ≡ true → is_for o a ≡ true
-    at NoAddress f = f
-    at (SomeAddress b) f = f
+    at : (o : Option ℕ) → is_at o a ≡ true → is_for o a ≡ true
+    at None f = f
+    at (Some b) f = f
 parked-for Dormant t a e = e
 
 -- whom a call wakes, it gives what it waited for, in the words of the demand
@@ -86,7 +83,7 @@ module _ (number : ℕ) (k : Kernel) (r : Registers) (words : List ℕ) (tick : 
     call-waits w b e = (call-effect k r tick number words p).waits w b (blocked-other k run w b) e
 
     -- and a wait of n nanoseconds runs out as many ticks after the call's
-    pub call-wake : (c : ℕ) → k.current_thread ≡ SomeThread c → Blocked after.threads c → timed_wait? number r ≡ true → Timed (wait_nanos number r) tick
+    pub call-wake : (c : ℕ) → k.current_thread ≡ Some c → Blocked after.threads c → timed_wait? number r ≡ true → Timed (wait_nanos number r) tick
         → (thread_at after.threads c).wakeup_at ≡ runs_out (wait_nanos number r) tick
     call-wake c e b t s = (call-effect k r tick number words p).wake c e (runs-current k run c e) b t s
 

@@ -1,12 +1,9 @@
 -- The calls on threads: who waits on after a thread is made, ends, sleeps or gets a priority.
-use Rattle.std.specs.Prelude.{◌≡◌, refl, true, false, ◌≢◌, List, [], ◌∷◌, ℕ, zero, suc, eqb, set}
+use Rattle.units.specs.declared.Ticks.{Ticks}
+use Rattle.std.specs.Prelude.{◌≡◌, refl, true, false, ◌≢◌, List, [], ◌∷◌, ℕ, zero, suc, eqb, set, Option, Some, None}
 use Rattle.std.proofs.Common.{ap, sym, ◌∙◌}
 use Rattle.laws.specs.Logic.{pick_no, false-true}
 use Rattle.units.specs.Ticks.{nanos_to_ticks}
-use Rattle.types.specs.declared.thread.ThreadOption.{ThreadOption}
-use Rattle.types.specs.declared.thread.ThreadOption.TheVariants.{NoThread, SomeThread}
-use Rattle.types.specs.declared.thread.TickOption.{TickOption}
-use Rattle.types.specs.declared.thread.TickOption.TheVariants.{NoTick, SomeTick}
 use Rattle.types.specs.declared.thread.ThreadStatus.TheVariants.{Dead}
 use Rattle.types.specs.declared.thread.Thread.{Thread}
 use Rattle.types.specs.declared.kernel.Kernel.{Kernel}
@@ -43,21 +40,21 @@ create_thread-calm k r p = record {
 }
 
 -- ---- 0x09: the current thread is Dead afterwards, and no other one is touched
-exit-as : (o : ThreadOption) (k : Kernel) (w : ℕ) → o ≢ SomeThread w → thread_at (exit_as o k).kernel.threads w ≡ thread_at k.threads w
-exit-as NoThread k w h = refl
-exit-as (SomeThread c) k w h = end-other k c w (λ e. h (ap SomeThread (sym e)))
+exit-as : (o : Option ℕ) (k : Kernel) (w : ℕ) → o ≢ Some w → thread_at (exit_as o k).kernel.threads w ≡ thread_at k.threads w
+exit-as None k w h = refl
+exit-as (Some c) k w h = end-other k c w (λ e. h (ap Some (sym e)))
 
-pub exit_other : (k : Kernel) (w : ℕ) → k.current_thread ≢ SomeThread w → thread_at (exit_thread k).kernel.threads w ≡ thread_at k.threads w
+pub exit_other : (k : Kernel) (w : ℕ) → k.current_thread ≢ Some w → thread_at (exit_thread k).kernel.threads w ≡ thread_at k.threads w
 unfolding exit_thread
 exit_other k w h = exit-as k.current_thread k w h
 
-pub exit_dead : (k : Kernel) (c : ℕ) → k.current_thread ≡ SomeThread c → Runs k c → (thread_at (exit_thread k).kernel.threads c).status ≡ Dead
+pub exit_dead : (k : Kernel) (c : ℕ) → k.current_thread ≡ Some c → Runs k c → (thread_at (exit_thread k).kernel.threads c).status ≡ Dead
 unfolding exit_thread
-exit_dead k c e x = ap (λ (o : ThreadOption). (thread_at (exit_as o k).kernel.threads c).status) e ∙ end-dead k c (running_in k.threads c x)
+exit_dead k c e x = ap (λ (o : Option ℕ). (thread_at (exit_as o k).kernel.threads c).status) e ∙ end-dead k c (running_in k.threads c x)
 
-exit_flag : (o : ThreadOption) (k : Kernel) → (exit_as o k).kernel.relief ≡ k.relief
-exit_flag NoThread k = refl
-exit_flag (SomeThread c) k = end-relief k c
+exit_flag : (o : Option ℕ) (k : Kernel) → (exit_as o k).kernel.relief ≡ k.relief
+exit_flag None k = refl
+exit_flag (Some c) k = end-relief k c
 
 pub exit_thread-calm : (k : Kernel) → Calm k (exit_thread k).kernel
 unfolding exit_thread
@@ -68,10 +65,10 @@ exit_thread-calm k = record {
 }
 
 -- ---- 0x0C: a priority is no part of a wait
-priority_as : (o : ThreadOption) (k : Kernel) (n : ℕ) → Calm k (set_priority_as o k n).kernel
+priority_as : (o : Option ℕ) (k : Kernel) (n : ℕ) → Calm k (set_priority_as o k n).kernel
 unfolding thread.set_priority
-priority_as NoThread k n = same-calm k k (record { threads = refl; relief = refl })
-priority_as (SomeThread t) k n = record {
+priority_as None k n = same-calm k k (record { threads = refl; relief = refl })
+priority_as (Some t) k n = record {
   waits = λ w b h. priority-wait k t n w;
   free = λ c e x. ap is_blocked (thread-f (λ (y : Thread). y.status) k.threads t _ c refl) ∙ running_status (thread_at k.threads c).status x;
   relief = priority-relief k t n;
@@ -83,22 +80,22 @@ set_priority-calm k r = priority_as (resolve_thread k r.r0) k r.r1
 
 -- ---- 0x0A
 -- how long a thread ran is no part of a wait
-pub since-wait : (o : ThreadOption) (k : Kernel) (tick w : ℕ) → wait_of (thread_at (runs_since o k tick).threads w) ≡ wait_of (thread_at k.threads w)
-since-wait NoThread k tick w = refl
-since-wait (SomeThread c) k tick w = thread-f wait_of k.threads c _ w refl
+pub since-wait : (o : Option ℕ) (k : Kernel) (tick w : ℕ) → wait_of (thread_at (runs_since o k tick).threads w) ≡ wait_of (thread_at k.threads w)
+since-wait None k tick w = refl
+since-wait (Some c) k tick w = thread-f wait_of k.threads c _ w refl
 
-since-relief : (o : ThreadOption) (k : Kernel) (tick : ℕ) → (runs_since o k tick).relief ≡ k.relief
-since-relief NoThread k tick = refl
-since-relief (SomeThread c) k tick = refl
+since-relief : (o : Option ℕ) (k : Kernel) (tick : ℕ) → (runs_since o k tick).relief ≡ k.relief
+since-relief None k tick = refl
+since-relief (Some c) k tick = refl
 
 -- another thread is left
-sleep-waits : (d : TickOption) (k : Kernel) (tick w : ℕ) → k.current_thread ≢ SomeThread w → wait_of (thread_at (sleep_for d k tick).threads w) ≡ wait_of (thread_at k.threads w)
-sleep-waits NoTick k tick w h = since-wait k.current_thread k tick w
-sleep-waits (SomeTick d) k tick w h = ap wait_of (sleep-other k d.0 tick w h)
+sleep-waits : (d : Option Ticks) (k : Kernel) (tick w : ℕ) → k.current_thread ≢ Some w → wait_of (thread_at (sleep_for d k tick).threads w) ≡ wait_of (thread_at k.threads w)
+sleep-waits None k tick w h = since-wait k.current_thread k tick w
+sleep-waits (Some d) k tick w h = ap wait_of (sleep-other k d.0 tick w h)
 
-sleep-flag : (d : TickOption) (k : Kernel) (tick : ℕ) → (sleep_for d k tick).relief ≡ k.relief
-sleep-flag NoTick k tick = since-relief k.current_thread k tick
-sleep-flag (SomeTick d) k tick = sleep-relief k d.0 tick
+sleep-flag : (d : Option Ticks) (k : Kernel) (tick : ℕ) → (sleep_for d k tick).relief ≡ k.relief
+sleep-flag None k tick = since-relief k.current_thread k tick
+sleep-flag (Some d) k tick = sleep-relief k d.0 tick
 
 pub sleep_thread-effect : (k : Kernel) (r : Registers) (tick : ℕ) → Effect k [] true true (pair r.r0 r.r1) tick (sleep_thread k r tick).kernel
 unfolding sleep_thread contains
@@ -109,8 +106,8 @@ sleep_thread-effect k r tick =
       wakes = λ w e. false-true e;
       parked = λ c e x b. refl;
       wake = λ c e x b t s.
-          ap (λ (d : TickOption). (thread_at (sleep_for d k tick).threads c).wakeup_at) (pick_no (eqb n 0) _ (SomeTick (nanos_to_ticks (record { 0 = n }))) (timed_zero n tick s))
+          ap (λ (d : Option Ticks). (thread_at (sleep_for d k tick).threads c).wakeup_at) (pick_no (eqb n 0) _ (Some (nanos_to_ticks (record { 0 = n }))) (timed_zero n tick s))
           ∙ ap (λ (y : Thread). y.wakeup_at) (sleep-own k c e (running_in k.threads c x) (nanos_to_ticks (record { 0 = n })).0 tick)
-          ∙ ap (λ (m : ℕ). SomeTick (record { 0 = m })) (timed_out n tick s);
+          ∙ ap (λ (m : ℕ). Some (record { 0 = m })) (timed_out n tick s);
       relief = sleep-flag (sleep_ticks k n tick) k tick;
     }

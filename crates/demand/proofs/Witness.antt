@@ -1,10 +1,9 @@
 -- What is computed of the operations of specs/Witness.antt, and what the demand says of them.
-use Rattle.std.specs.Prelude.{◌≡◌, refl, Bool, true, false, not, ◌≢◌, List, [], ◌∷◌, ℕ, zero, suc, ◌+◌, ◌≤◌, ◌<◌, eqb, ltb}
+use Rattle.std.specs.Prelude.{◌≡◌, refl, Bool, true, false, not, ◌≢◌, List, [], ◌∷◌, ℕ, zero, suc, ◌+◌, ◌≤◌, ◌<◌, eqb, ltb, Some}
 use Rattle.std.proofs.Common.{ap, sym, arith, eqb-true, ltb-true}
 use Rattle.laws.specs.Logic.{◌and◌, ◌or◌, and-true, false-true}
 use Rattle.laws.specs.Count.{ind, count, at}
 use Rattle.laws.specs.Walk.{walk}
-use Rattle.types.specs.declared.thread.ThreadOption.TheVariants.{SomeThread}
 use Rattle.types.specs.declared.thread.Thread.{Thread}
 use Rattle.types.specs.declared.kernel.Kernel.{Kernel}
 use Rattle.types.specs.Thread.{is_blocked}
@@ -79,7 +78,7 @@ low : (e : Event) → runnable? (thread_at e.after.threads 0).status ≡ true �
 low e r s = lowest e.before.threads e.after.threads 0 r s
 
 -- ---- a call that begins a wait
-begin : (k : Kernel) (number : ℕ) (r : Registers) (words : List ℕ) (τ n t : ℕ) → timed_wait? number r ≡ true → wait_nanos number r ≡ n → k.current_thread ≡ SomeThread τ
+begin : (k : Kernel) (number : ℕ) (r : Registers) (words : List ℕ) (τ n t : ℕ) → timed_wait? number r ≡ true → wait_nanos number r ≡ n → k.current_thread ≡ Some τ
     → is_blocked (thread_at (reads k number r words t).after.threads τ).status ≡ true → 1 ≤ n → n < 9223372036854775808 → t + in_ticks n < 18446744073709551616
     → Begins (reads k number r words t) τ n t
 begin k number r words τ n t w m c p from to fits = record {

@@ -1,8 +1,7 @@
 -- The premises of demand 3 can be met, and each outcome that it speaks of occurs: operations one after the other from a fresh start, computed by the definitions.
-use Rattle.std.specs.Prelude.{◌≡◌, Bool, true, false, not, ◌⊎◌, List, [], ◌∷◌, ℕ, zero, suc, ◌+◌, ◌*◌, ◌<◌, eqb, ltb}
+use Rattle.units.specs.declared.Ticks.{Ticks}
+use Rattle.std.specs.Prelude.{◌≡◌, Bool, true, false, not, ◌⊎◌, List, [], ◌∷◌, ℕ, zero, suc, ◌+◌, ◌*◌, ◌<◌, eqb, ltb, Option, None}
 use Rattle.laws.specs.Logic.{◌and◌, ◌or◌}
-use Rattle.types.specs.declared.thread.TickOption.{TickOption}
-use Rattle.types.specs.declared.thread.TickOption.TheVariants.{NoTick}
 use Rattle.types.specs.declared.thread.Thread.{Thread}
 use Rattle.types.specs.declared.kernel.Kernel.{Kernel}
 use Rattle.sound.specs.View.{object_at, thread_at}
@@ -103,13 +102,13 @@ abbrev pub AtSecond : ℕ → Event → Event → Type 0
 AtSecond τ f g = (RunsAt τ f → ⊥) × RunsAt τ g
 
 -- a timer left alone by each operation, which is due at the next of some ticks after each
-abbrev pub Dues : ℕ → List Event → List TickOption → Type 0
+abbrev pub Dues : ℕ → List Event → List (Option Ticks) → Type 0
 Dues o [] [] = Unit {0}
 Dues o [] (d ∷ ds) = ⊥
 Dues o (e ∷ es) [] = ⊥
 Dues o (e ∷ es) (d ∷ ds) = Left o e × (due_at (object_at e.after.objects o) ≡ d) × Dues o es ds
 
-pub record Armed (o t a b : ℕ) (dues : List TickOption) (e : Event) (es : List Event) : Type 0 where
+pub record Armed (o t a b : ℕ) (dues : List (Option Ticks)) (e : Event) (es : List Event) : Type 0 where
   pub sets : Sets e o t a b
   pub held : Open o e.after
   pub due : due_at (object_at e.after.objects o) ≡ cut_off (t + in_ticks a)
@@ -294,7 +293,7 @@ busy278 = passed busy277.after 278
 abbrev pub busy : List Event
 busy = busy11 ∷ busy_looks ∷ busy_creates ∷ busy_collects ∷ busy_ends ∷ busy_calls ∷ busy_exits ∷ busy277 ∷ busy278 ∷ []
 
-abbrev pub busy_dues : List TickOption
+abbrev pub busy_dues : List (Option Ticks)
 busy_dues = cut_off 278 ∷ cut_off 278 ∷ cut_off 278 ∷ cut_off 278 ∷ cut_off 278 ∷ cut_off 278 ∷ cut_off 278 ∷ cut_off 278 ∷ cut_off 278 ∷ cut_off (278 + 536) ∷ []
 
 -- ---- all of it, computed
@@ -323,5 +322,5 @@ pub record Shown : Type 0 where
   pub repeats_too : Armed 1 10 1000 2000 busy_dues arm_too (sleep_too ∷ busy)
   pub repeats_still : Armed 1 10 1000 2000 (cut_off 278 ∷ []) arm (refused arm.after ∷ [])
   -- "B = 0 disarms after one firing"
-  pub single : Armed 1 10 1000 0 (cut_off 278 ∷ NoTick ∷ []) once (once277 ∷ once278 ∷ [])
-  pub single_says : KeepsGrid once (once277 ∷ once278 ∷ []) → OnGrid 10 1000 0 (277 ∷ 278 ∷ []) NoTick
+  pub single : Armed 1 10 1000 0 (cut_off 278 ∷ None ∷ []) once (once277 ∷ once278 ∷ [])
+  pub single_says : KeepsGrid once (once277 ∷ once278 ∷ []) → OnGrid 10 1000 0 (277 ∷ 278 ∷ []) None

@@ -1,15 +1,10 @@
 -- Demand 3 of document 00, in the words of document 01, about operations one after the other.
-use Rattle.std.specs.Prelude.{◌≡◌, Bool, true, false, not, ◌≢◌, ◌⊎◌, List, [], ◌∷◌, ◌++◌, map, ℕ, zero, suc, ◌+◌, ◌-◌, ◌*◌, ◌/◌, ◌≤◌, ◌<◌, eqb, leb, ltb, take, get_or}
+use Rattle.units.specs.declared.Ticks.{Ticks}
+use Rattle.std.specs.Prelude.{◌≡◌, Bool, true, false, not, ◌≢◌, ◌⊎◌, List, [], ◌∷◌, ◌++◌, map, ℕ, zero, suc, ◌+◌, ◌-◌, ◌*◌, ◌/◌, ◌≤◌, ◌<◌, eqb, leb, ltb, take, get_or, Option, Some, None}
 use Rattle.laws.specs.Logic.{pick, ◌and◌, ◌or◌}
 use Rattle.laws.specs.All.{All}
 use Rattle.laws.specs.Count.{count}
 use Rattle.units.specs.declared.ObjectId.{ObjectId}
-use Rattle.types.specs.declared.thread.ThreadOption.{ThreadOption}
-use Rattle.types.specs.declared.thread.ThreadOption.TheVariants.{NoThread, SomeThread}
-use Rattle.types.specs.declared.thread.TickOption.{TickOption}
-use Rattle.types.specs.declared.thread.TickOption.TheVariants.{NoTick, SomeTick}
-use Rattle.types.specs.declared.thread.AddressOption.{AddressOption}
-use Rattle.types.specs.declared.thread.AddressOption.TheVariants.{NoAddress, SomeAddress}
 use Rattle.types.specs.declared.thread.ThreadStatus.{ThreadStatus}
 use Rattle.types.specs.declared.thread.ThreadStatus.TheVariants.{Dead, Running, Ready, Sleeping, WaitSync, WaitArbiter, Dormant}
 use Rattle.types.specs.declared.thread.Thread.{Thread}
@@ -19,7 +14,7 @@ use Rattle.types.specs.declared.object.HandleEntry.{HandleEntry}
 use Rattle.types.specs.declared.object.HandleTable.{HandleTable}
 use Rattle.types.specs.declared.object.ObjectStore.{ObjectStore}
 use Rattle.types.specs.declared.kernel.Kernel.{Kernel}
-use Rattle.types.specs.Thread.{thread_flag, is_blocked, is_dead}
+use Rattle.types.specs.Thread.{option_flag, is_blocked, is_dead}
 use Rattle.types.specs.Object.{kind_number}
 use Rattle.sound.specs.View.{handled, ids, object_at, thread_at}
 use Rattle.sound.specs.Threads.{is_current}
@@ -86,11 +81,11 @@ unfoldable pub entry_of : List HandleEntry → ℕ → ℕ
 entry_of [] h = 0
 entry_of (e ∷ es) h = pick (eqb e.handle.0 h) e.object.0 (entry_of es h)
 
-abbrev pub own_object : ThreadOption → List ObjectId → ℕ
-own_object NoThread kept = 0
-own_object (SomeThread t) kept = get_or (ids kept) t 0
+abbrev pub own_object : Option ℕ → List ObjectId → ℕ
+own_object None kept = 0
+own_object (Some t) kept = get_or (ids kept) t 0
 
-abbrev pub named : ThreadOption → HandleTable → ObjectStore → ℕ → ℕ
+abbrev pub named : Option ℕ → HandleTable → ObjectStore → ℕ → ℕ
 named c t s h = pick (eqb h 0xFFFF8000) (own_object c s.thread_objects) (pick (eqb h 0xFFFF8001) s.process_object.0 (entry_of t.entries h))
 
 -- ---- "what it waited for"
@@ -100,12 +95,12 @@ pub data Awaited : Type 0 where
   -- all or one of a list of objects
   objects : (all : Bool) → (list : List ℕ) → Awaited
   -- a signal at an address
-  signal : (address : AddressOption) → Awaited
+  signal : (address : Option ℕ) → Awaited
   -- it does not wait
   nothing : Awaited
 
 -- by the thread's record: its status, and then its list or its address
-abbrev pub awaits : ThreadStatus → Bool → List ℕ → AddressOption → Awaited
+abbrev pub awaits : ThreadStatus → Bool → List ℕ → Option ℕ → Awaited
 awaits Dead all list place = nothing
 awaits Running all list place = nothing
 awaits Ready all list place = nothing
@@ -122,7 +117,7 @@ awaited_by t = awaits t.status t.wait_all (take t.wait_count (ids t.wait_objects
 abbrev pub asks_for : ℕ → Registers → List ℕ → (ℕ → ℕ) → Awaited
 asks_for number r words name =
     pick (eqb number 0x0A) time
-    (pick (eqb number 0x22) (signal (SomeAddress r.r1))
+    (pick (eqb number 0x22) (signal (Some r.r1))
     (pick (eqb number 0x24) (objects false (name r.r0 ∷ []))
     (pick (eqb number 0x25) (objects (not (eqb r.r3 0)) (map name words)) nothing)))
 
@@ -147,7 +142,7 @@ pub record Begins (e : Event) (τ n t : ℕ) : Type 0 where
   pub wait : timed_wait? number registers ≡ true
   pub nanos : wait_nanos number registers ≡ n
   -- it is the current thread that calls, and it parks
-  pub who : e.before.current_thread ≡ SomeThread τ
+  pub who : e.before.current_thread ≡ Some τ
   pub parks : is_blocked (thread_at e.after.threads τ).status ≡ true
   pub from : 1 ≤ n
   pub to : n < 9223372036854775808
@@ -155,7 +150,7 @@ pub record Begins (e : Event) (τ n t : ℕ) : Type 0 where
 
 -- what that call asks for: its handles by the table that it found; the object of a pseudo-handle may be made by the call, so it is looked up after it
 abbrev pub asked_for : (e : Event) (τ n t : ℕ) → Begins e τ n t → Awaited
-asked_for e τ n t b = asks_for b.number b.registers b.words (named (SomeThread τ) e.before.handles e.after.objects)
+asked_for e τ n t b = asks_for b.number b.registers b.words (named (Some τ) e.before.handles e.after.objects)
 
 -- ---- "nobody ends the thread or starts afresh"
 abbrev pub strikes? : ℕ → Doing → Kernel → Bool
@@ -180,7 +175,7 @@ abbrev pub satisfies? : List Thread → KObject → ℕ → Bool
 satisfies? ts (object.Free n) τ = true
 satisfies? ts (object.Thread u) τ = is_dead (thread_at ts u).status
 satisfies? ts (object.Event e) τ = e.signaled
-satisfies? ts (object.Mutex m) τ = eqb (thread_flag m.owner) 0 or is_current m.owner τ
+satisfies? ts (object.Mutex m) τ = eqb (option_flag m.owner) 0 or is_current m.owner τ
 satisfies? ts (object.Semaphore s) τ = ltb 0 s.count and ltb s.count 2147483648
 satisfies? ts (object.Timer t) τ = t.signaled
 satisfies? ts (object.AddressArbiter a) τ = true
@@ -218,9 +213,9 @@ objects_give? WaitArbiter t x τ = false
 objects_give? Dormant t x τ = false
 
 -- "for its address": the thread is parked at an address, and it is that one
-abbrev pub is_for : AddressOption → ℕ → Bool
-is_for NoAddress a = false
-is_for (SomeAddress b) a = eqb b a
+abbrev pub is_for : Option ℕ → ℕ → Bool
+is_for None a = false
+is_for (Some b) a = eqb b a
 
 abbrev pub address_gives? : ThreadStatus → Thread → ℕ → Bool
 address_gives? Dead t a = false
@@ -319,7 +314,7 @@ abbrev pub LowestAt : ℕ → Event → Type 0
 LowestAt τ e = Lowest e.before.threads e.after.threads τ
 
 abbrev pub RunsAt : ℕ → Event → Type 0
-RunsAt τ e = e.after.current_thread ≡ SomeThread τ
+RunsAt τ e = e.after.current_thread ≡ Some τ
 
 abbrev pub IfElse : Bool → Type 0 → Type 0 → Type 0
 IfElse true P Q = P
@@ -350,16 +345,16 @@ abbrev pub is_timer : KObject → Bool
 is_timer x = eqb (kind_number x) 5
 
 -- the "next due" of a timer
-abbrev pub due_at : KObject → TickOption
-due_at (object.Free n) = NoTick
-due_at (object.Thread u) = NoTick
-due_at (object.Event e) = NoTick
-due_at (object.Mutex m) = NoTick
-due_at (object.Semaphore s) = NoTick
+abbrev pub due_at : KObject → Option Ticks
+due_at (object.Free n) = None
+due_at (object.Thread u) = None
+due_at (object.Event e) = None
+due_at (object.Mutex m) = None
+due_at (object.Semaphore s) = None
 due_at (object.Timer t) = t.fire_at
-due_at (object.AddressArbiter a) = NoTick
-due_at object.Process = NoTick
-due_at object.ResourceLimit = NoTick
+due_at (object.AddressArbiter a) = None
+due_at object.Process = None
+due_at object.ResourceLimit = None
 
 -- "a timer set at t with a, b nanoseconds (negative counts as 0)": an accepted 0x1B on the timer o
 pub record Sets (e : Event) (o t a b : ℕ) : Type 0 where
@@ -407,8 +402,8 @@ pub record Left (o : ℕ) (e : Event) : Type 0 where
   pub held : Open o e.after
 
 -- due at x while it fits 64 bits; "beyond: 2^64 − 1"
-abbrev pub cut_off : ℕ → TickOption
-cut_off x = SomeTick (record { 0 = cut x })
+abbrev pub cut_off : ℕ → Option Ticks
+cut_off x = Some (record { 0 = cut x })
 
 -- the point k of the grid from x in steps of B passes every tick of a list
 abbrev pub Passes : ℕ → ℕ → List ℕ → ℕ → Type 0
@@ -430,13 +425,13 @@ reached at [] = false
 reached at (tick ∷ ticks) = leb at tick or reached at ticks
 
 -- the due of a timer set at t with a, b nanoseconds (A, B ticks), after timers were fired at the ticks of a list
-pub record OnGrid (t a b : ℕ) (ticks : List ℕ) (due : TickOption) : Type 0 where
+pub record OnGrid (t a b : ℕ) (ticks : List ℕ) (due : Option Ticks) : Type 0 where
   -- "has next due t + A + k × B, k the least from 0 that passes every tick"; while it fits it is in step with the exact time
   pub repeats : (A B : ℕ) → in_ticks a ≡ A → in_ticks b ≡ B → 0 < B
       → (k : ℕ) × Least (Passes (t + A) B ticks) k × (due ≡ cut_off (t + A + k * B)) × (t + A + k * B ≤ 18446744073709551615 → InStep a b k (t + A + k * B - t))
   -- "B = 0 disarms after one firing"
   pub single : (A : ℕ) → in_ticks a ≡ A → in_ticks b ≡ 0
-      → due ≡ pick (reached (cut (t + A)) ticks) NoTick (cut_off (t + A))
+      → due ≡ pick (reached (cut (t + A)) ticks) None (cut_off (t + A))
 
 -- after each operation, as long as the timer is left alone; ticks are those fired at since it was set
 abbrev pub Grid : ℕ → ℕ → ℕ → ℕ → List ℕ → List Event → Type 0

@@ -5,7 +5,7 @@ use mathlib.Core.Logic.{◌≢◌}
 use mathlib.Core.List.{List}
 use Prim.Native.Nat.{ℕ}
 use lib.Dec.{eqb}
-use borrow.Author.Tests.{eqb-true, ne_eqb}
+use borrow.Author.Tests.{ne_eqb}
 use Rattle.laws.specs.Logic.{pick}
 use Rattle.types.specs.declared.kernel.Kernel.{Kernel}
 use Rattle.block.specs.Block.{enc_block, dec_block}
@@ -15,7 +15,7 @@ use Rattle.svc.specs.Call.{silent}
 use Rattle.svc.specs.Dispatch.{call, handle_call}
 use Rattle.lent.specs.Operations.{finding}
 use Rattle.rows.specs.Holds.{holds}
-use Rattle.outcome.specs.Outcome.{refused, outcome, left}
+use Rattle.outcome.specs.Outcome.{left}
 
 module _ (n : ℕ) (k : Kernel) (r : Registers) (words : List ℕ) (tick : ℕ) where
   pub no_handle_call : n ≢ 0x21 → n ≢ 0x22 → n ≢ 0x23 → n ≢ 0x24 → n ≢ 0x25 → n ≢ 0x27 → handle_call n k r words tick ≡ silent k
@@ -25,15 +25,7 @@ module _ (n : ℕ) (k : Kernel) (r : Registers) (words : List ℕ) (tick : ℕ) 
   unfolding call
   handle-call e0 e1 e2 e3 e4 e5 e6 e7 e8 e9 e10 e11 e12 e13 e14 = rw (ne_eqb n 0x08 e0, ne_eqb n 0x09 e1, ne_eqb n 0x0A e2, ne_eqb n 0x0C e3, ne_eqb n 0x13 e4, ne_eqb n 0x14 e5, ne_eqb n 0x15 e6, ne_eqb n 0x16 e7, ne_eqb n 0x17 e8, ne_eqb n 0x18 e9, ne_eqb n 0x19 e10, ne_eqb n 0x1A e11, ne_eqb n 0x1B e12, ne_eqb n 0x1C e13, ne_eqb n 0x1D e14)
 
--- no register is written, found or not
-pub silent-outcome : (k : Kernel) → refused (finding k) ≡ outcome (silent k)
-unfolding outcome
-silent-outcome k = go (finding k) (eqb (finding k) 0) refl
-  where
-    go : (n : ℕ) (t : Bool) → eqb n 0 ≡ t → refused n ≡ pick t (refused 0) (refused n)
-    go n true e = rw (eqb-true n 0 e)
-    go n false e = refl
-
+-- the block stays as it is, found or not
 pub silent-left : (b : List ℕ) → sound? b ≡ true → b ≡ left (silent (dec_block b)) b
 unfolding left
 silent-left b s = go (eqb (finding (dec_block b)) 0)

@@ -6,95 +6,56 @@ ghost use Rattle.svc.specs.Call.{silent};
 ghost use Rattle.svc.specs.Dispatch as def;
 ghost use Rattle.outcome.specs.Outcome.{outcome, left};
 
+use block::Block;
 use outcome::Outcome;
 use svc::Registers;
+use types::refusal::Refusal;
 use types::thread::WAIT_LIST;
 use units::Ticks;
 
 // A number that is no call's does nothing; question 3 refuses it before.
-fn no_call(block: &[u8]) -> Outcome
-    requires { length block.now ≡ 16384 }
+fn no_call(block: &Block) -> Result<Outcome, Refusal>
     ensures { result ≡ outcome (silent (dec_block block.now)) }
 {
-    outcome::refused(outcome::found_of(false, outcome::out_of_handles(block)))
+    outcome::room(false, outcome::out_of_handles(block))?;
+    Ok(outcome::silent())
 }
 
 // The call, on the first n words, which it reads.
 pub fn call(
-    block: &mut [u8],
+    block: &mut Block,
     number: u32,
     r: Registers,
     words: [u32; WAIT_LIST],
     n: u32,
     tick: Ticks,
-) -> Outcome
-    requires block_len { length block.old ≡ 16384 }
+) -> Result<Outcome, Refusal>
     requires block_value { sound? block.old ≡ true }
     ensures value { result ≡ outcome (def.call number (dec_block block.old) r (take n words) tick.0) }
     ensures block_after { block.new ≡ left (def.call number (dec_block block.old) r (take n words) tick.0) block.old }
 {
-    if number == 0x08 {
-        return threads::create::create_thread(block, r);
+    match number {
+        0x08 => threads::create::create_thread(block, r),
+        0x09 => threads::exit::exit_thread(block),
+        0x0A => threads::sleep::sleep_thread(block, r, tick),
+        0x0C => threads::priority::set_thread_priority(block, r),
+        0x13 => sync_calls::mutex::create_mutex(block, r),
+        0x14 => sync_calls::mutex::release_mutex(block, r),
+        0x15 => sync_calls::semaphore::create_semaphore(block, r),
+        0x16 => sync_calls::semaphore::release_semaphore(block, r),
+        0x17 => sync_calls::event::create_event(block, r),
+        0x18 => sync_calls::event::signal_event(block, r),
+        0x19 => sync_calls::event::clear_event(block, r),
+        0x1A => timer_calls::timers::create_timer(block, r),
+        0x1B => timer_calls::timers::set_timer(block, r, tick),
+        0x1C => timer_calls::timers::cancel_timer(block, r, tick),
+        0x1D => timer_calls::timers::clear_timer(block, r, tick),
+        0x21 => handle_calls::create_address_arbiter(block),
+        0x22 => arbiter_calls::arbitrate::arbitrate_address(block, r, words, n, tick),
+        0x23 => handle_calls::close::close_handle(block, r),
+        0x24 => wait_calls::one::wait_synchronization1(block, r, tick),
+        0x25 => wait_calls::many::wait_synchronization_n(block, r, words, n, tick),
+        0x27 => handle_calls::duplicate::duplicate_handle(block, r),
+        _ => no_call(block),
     }
-    if number == 0x09 {
-        return threads::exit::exit_thread(block);
-    }
-    if number == 0x0A {
-        return threads::sleep::sleep_thread(block, r, tick);
-    }
-    if number == 0x0C {
-        return threads::priority::set_thread_priority(block, r);
-    }
-    if number == 0x13 {
-        return sync_calls::mutex::create_mutex(block, r);
-    }
-    if number == 0x14 {
-        return sync_calls::mutex::release_mutex(block, r);
-    }
-    if number == 0x15 {
-        return sync_calls::semaphore::create_semaphore(block, r);
-    }
-    if number == 0x16 {
-        return sync_calls::semaphore::release_semaphore(block, r);
-    }
-    if number == 0x17 {
-        return sync_calls::event::create_event(block, r);
-    }
-    if number == 0x18 {
-        return sync_calls::event::signal_event(block, r);
-    }
-    if number == 0x19 {
-        return sync_calls::event::clear_event(block, r);
-    }
-    if number == 0x1A {
-        return timer_calls::timers::create_timer(block, r);
-    }
-    if number == 0x1B {
-        return timer_calls::timers::set_timer(block, r, tick);
-    }
-    if number == 0x1C {
-        return timer_calls::timers::cancel_timer(block, r, tick);
-    }
-    if number == 0x1D {
-        return timer_calls::timers::clear_timer(block, r, tick);
-    }
-    if number == 0x21 {
-        return handle_calls::create_address_arbiter(block);
-    }
-    if number == 0x22 {
-        return arbiter_calls::arbitrate::arbitrate_address(block, r, words, n, tick);
-    }
-    if number == 0x23 {
-        return handle_calls::close::close_handle(block, r);
-    }
-    if number == 0x24 {
-        return wait_calls::one::wait_synchronization1(block, r, tick);
-    }
-    if number == 0x25 {
-        return wait_calls::many::wait_synchronization_n(block, r, words, n, tick);
-    }
-    if number == 0x27 {
-        return handle_calls::duplicate::duplicate_handle(block, r);
-    }
-    no_call(block)
 }

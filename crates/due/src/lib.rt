@@ -15,55 +15,43 @@ ghost use Rattle.signal.specs.Marks.{sync_list, sync_lists, lost_marked};
 ghost use Rattle.svc.specs.Call.{with_objects};
 ghost use Rattle.svc.specs.Timers.{caught_up};
 
-use block::record;
+use block::{Block, record};
 use rows::write;
 use signal::{catch_up, timer};
 use types::object::Slot;
 use units::{ObjectId, Ticks};
 
 // Whether a timer comes due by the tick.
-pub fn timer_due(b: &[u8], tick: Ticks) -> bool
-    requires { length b.now ≡ 16384 }
+pub fn timer_due(b: &Block, tick: Ticks) -> bool
     ensures { result ≡ timer_due tick.0 (dec_block b.now).objects.slots }
 {
-    let mut i: usize = 0;
-    while i < 128 {
-        let s = record::slot_at(b, i);
-        if timer::slot_due(s, tick) {
+    for i in 0..128 {
+        if timer::slot_due(record::slot_at(b, i), tick) {
             return true;
         }
-        i += 1;
     }
     false
 }
 
 // Whether the count of periods of a timer that is due does not fit. A timer that is not due costs no division.
-pub fn over(b: &[u8], tick: Ticks) -> bool
-    requires { length b.now ≡ 16384 }
+pub fn over(b: &Block, tick: Ticks) -> bool
     ensures { result ≡ (caught_up (dec_block b.now) tick.0).objects.overflow }
 {
-    let mut i: usize = 0;
-    while i < 128 {
-        let s = record::slot_at(b, i);
-        if timer::slot_over(s, tick) {
+    for i in 0..128 {
+        if timer::slot_over(record::slot_at(b, i), tick) {
             return true;
         }
-        i += 1;
     }
     false
 }
 
 // One more for each object that a thread waits on.
-fn mark_lists(m: &mut [u32; 129], b: &[u8])
-    requires { length b.now ≡ 16384 }
+fn mark_lists(m: &mut [u32; 129], b: &Block)
     ensures m_after { m.new ≡ tally_all 129 m.old (sync_lists (dec_block b.now).threads) }
     ensures all { All (λ t. length (sync_list t) ≤ wait_list) (dec_block b.now).threads }
 {
-    let mut i: usize = 0;
-    while i < 32 {
-        let t = record::thread_at(b, i);
-        catch_up::mark_list(m, t);
-        i += 1;
+    for i in 0..32 {
+        catch_up::mark_list(m, record::thread_at(b, i));
     }
 }
 
@@ -71,45 +59,36 @@ fn mark_lists(m: &mut [u32; 129], b: &[u8])
 pub fn may_change(s: Slot, tick: Ticks) -> bool
     ensures { result ≡ (s.pulsed or due_by (due_of s.object) tick.0) }
 {
-    if s.pulsed {
-        return true;
-    }
-    timer::slot_due(s, tick)
+    s.pulsed || timer::slot_due(s, tick)
 }
 
 fn caught_slot(waited: bool, s: Slot, tick: Ticks) -> Slot
     ensures { result ≡ lost_slot waited (fired_slot tick.0 s) }
 {
-    let x = timer::fired_slot(tick, s);
-    catch_up::lost_slot(waited, x)
+    catch_up::lost_slot(waited, timer::fired_slot(tick, s))
 }
 
 // A slot is read before it is written, and a write leaves the slots after it alone, so each is read as it was.
-fn catch_up_slots(b: &mut [u8], m: &[u32; 129], tick: Ticks)
-    requires b_len { length b.old ≡ 16384 }
+fn catch_up_slots(b: &mut Block, m: &[u32; 129], tick: Ticks)
     requires b_value { sound? b.old ≡ true }
-    ensures b_after { b.new ≡ enc_block (with_objects (dec_block b.old) (with_slots (dec_block b.old).objects (lost_marked m.now 1 (map (fired_slot tick.0) (dec_block b.old).objects.slots)))) }
-    ensures b_len_2 { length b.new ≡ 16384 }
+    ensures { b.new ≡ enc_block (with_objects (dec_block b.old) (with_slots (dec_block b.old).objects (lost_marked m.now 1 (map (fired_slot tick.0) (dec_block b.old).objects.slots)))) }
 {
-    let mut i: usize = 0;
-    while i < 128 {
+    for i in 0..128 {
         let old = record::slot_at(b, i);
         if may_change(old, tick) {
             let x = caught_slot(0 < m[i + 1], old, tick);
             write::put_slot(b, ObjectId((i + 1) as u32), x);
         }
-        i += 1;
     }
 }
 
-// Timers that came due by the tick fire, and a pulse that no thread waits on is lost. If none came due nothing is written.
-pub fn catch_up(b: &mut [u8], tick: Ticks)
-    requires b_len { length b.old ≡ 16384 }
+// Timers that came due by the tick fire, and a pulse that no thread waits on is lost. If none came due nothing is
+// written.
+pub fn catch_up(b: &mut Block, tick: Ticks)
     requires b_value { sound? b.old ≡ true }
     requires tick_value { (caught_up (dec_block b.old) tick.0).objects.overflow ≡ false }
     ensures b_after { dec_block b.new ≡ caught_up (dec_block b.old) tick.0 }
     ensures b_after_2 { sound? b.new ≡ true }
-    ensures b_len_2 { length b.new ≡ 16384 }
 {
     if !timer_due(b, tick) {
         return;

@@ -1,50 +1,51 @@
 // The operation that ends a thread.
 #![tactic(auto)]
 
-ghost use Rattle.std.specs.Prelude.{◌≡◌, [], length};
+ghost use Rattle.std.specs.Prelude.{◌≡◌, []};
 ghost use Rattle.block.specs.Block.{dec_block};
+ghost use Rattle.types.specs.Refusal.{found_in, unless_found};
 ghost use Rattle.lent.specs.Lent.{lent, back};
 ghost use Rattle.lent.specs.Operations.{end_refusal, end_thread};
 
+use block::Block;
 use lent::questions;
 use rows::read;
+use types::refusal::Refusal;
 
 // The thread exists and is not Dead. A number past the places reads as a Dead thread.
-fn end_refusal(block: &[u8], t: u32) -> u32
-    requires { length block.now ≡ 16384 }
-    ensures { result ≡ end_refusal t (dec_block block.now) }
+fn end_refusal(block: &Block, t: u32) -> Result<(), Refusal>
+    ensures { result ≡ unless_found (end_refusal t (dec_block block.now)) tt }
 {
-    if codec::get32(block, 4) <= t {
-        return 4;
+    if codec::get32(block, 4) <= t || 32 <= t {
+        return Err(Refusal::NoThread);
     }
-    if 32 <= t {
-        return 4;
+    if types::thread::is_dead(read::thread_at(block, t).status) {
+        return Err(Refusal::NoThread);
     }
-    let v = read::thread_at(block, t);
-    let status = v.status;
-    if types::thread::is_dead(status) {
-        return 4;
-    }
-    0
+    Ok(())
 }
 
 // A thread ends at the host's wish.
+fn work(block: &mut [u8], id: u32) -> Result<(), Refusal>
+    ensures { back (found_in result) (lent block.new [] [] [] []) ≡ end_thread id (lent block.old [] [] [] []) }
+{
+    let Some(block) = block.as_mut_array::<16384>() else {
+        return Err(Refusal::Length);
+    };
+    if !questions::block_ok(block) {
+        return Err(Refusal::Unsound);
+    }
+    end_refusal(block, id)?;
+    ending::end_thread(block, id)?;
+    Ok(())
+}
+
+// The work as C gets it: 0, or the number of the refusal.
 pub fn operate(block: &mut [u8], id: u32) -> u32
     ensures { back result (lent block.new [] [] [] []) ≡ end_thread id (lent block.old [] [] [] []) }
 {
-    if block.len() != 16384 {
-        return 1;
+    match work(block, id) {
+        Ok(()) => 0,
+        Err(r) => u32::from(r),
     }
-    if !questions::block_ok(block) {
-        return 2;
-    }
-    let refusal = end_refusal(block, id);
-    if refusal != 0 {
-        return refusal;
-    }
-    let found = ending::end_thread(block, id);
-    if found != 0 {
-        return found;
-    }
-    0
 }

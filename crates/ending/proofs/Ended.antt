@@ -1,4 +1,5 @@
 -- A block that holds a state, with a thread ended in it; what is found then. Assumes nothing.
+use Rattle.std.specs.Prelude.{Option}
 use mathlib.Core.Path.{◌≡◌, refl, sym, ap, subst, ◌∙◌}
 use mathlib.Core.Logic.{◌≢◌}
 use mathlib.Core.Bool.{Bool, false}
@@ -7,13 +8,12 @@ use Prim.Native.Nat.{ℕ, ◌≤◌}
 use lib.ListN.{take}
 use Rattle.laws.specs.Logic.{pick, ◌or◌}
 use Rattle.types.specs.declared.thread.Thread.{Thread}
-use Rattle.types.specs.declared.thread.ThreadOption.{ThreadOption}
 use Rattle.types.specs.declared.object.KObject.{KObject}
 use Rattle.types.specs.declared.object.KObject.TheVariants as kind
 use Rattle.types.specs.declared.object.Slot.{Slot}
 use Rattle.types.specs.declared.kernel.Kernel.{Kernel}
 use Rattle.types.specs.Object.{kind_number}
-use Rattle.types.specs.Thread.{thread_flag, thread_value}
+use Rattle.types.specs.Thread.{option_flag, option_value}
 use Rattle.block.specs.declared.Head.{Head}
 use Rattle.block.specs.Thread.{four}
 use Rattle.block.specs.Block.{head_words, dec_block}
@@ -58,8 +58,8 @@ module _ (e : List ℕ) (k q : Kernel) (t : ℕ) where
   abbrev old : Thread
   old = thread_at k.threads t
 
-  abbrev head_ended : Head → ThreadOption → Head
-  head_ended h c = record { a = four h.a.0 h.a.1 (thread_flag c) (thread_value c); b = h.b; c = h.c; d = h.d }
+  abbrev head_ended : Head → Option ℕ → Head
+  head_ended h c = record { a = four h.a.0 h.a.1 (option_flag c) (option_value c); b = h.b; c = h.c; d = h.d }
 
   abbrev let_go : Kernel
   let_go = with_threads k k.threads (releases k.objects (take old.wait_count (ids old.wait_objects)))
@@ -69,7 +69,7 @@ module _ (e : List ℕ) (k q : Kernel) (t : ℕ) where
   unfolded g = put-head (put-thread g t (ended (clear_wait old))) (end_thread k t) (sym (set_again ended no_thread k.threads t (clear_wait old))) refl refl refl refl
 
   -- with the head h, the thread x, the current thread c
-  pub ended_in : (x : Thread) → x ≡ old → (c : ThreadOption) → c ≡ k.current_thread → q ≡ with_threads k k.threads (releases k.objects (take x.wait_count (ids x.wait_objects)))
+  pub ended_in : (x : Thread) → x ≡ old → (c : Option ℕ) → c ≡ k.current_thread → q ≡ with_threads k k.threads (releases k.objects (take x.wait_count (ids x.wait_objects)))
       → (h : Head) → h ≡ head_words q → Holds e (with_threads q q.threads (disown q.objects t))
       → Holds (head_put (thread_put e t (ended (clear_wait x))) (head_ended h (left_by c t))) (end_thread k t)
   ended_in x ex c ec eq h eh g =

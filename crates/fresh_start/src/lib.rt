@@ -2,20 +2,33 @@
 #![tactic(auto)]
 
 ghost use Rattle.std.specs.Prelude.{◌≡◌, []};
+ghost use Rattle.types.specs.Refusal.{found_in};
 ghost use Rattle.lent.specs.Lent.{lent, back};
 ghost use Rattle.lent.specs.Operations.{fresh_start};
 
+use types::refusal::Refusal;
+
 // A fresh block for threads that start with this status word, and a bank of zeros.
+fn work(block: &mut [u8], bank: &mut [u8], status_word: u32) -> Result<(), Refusal>
+    ensures { back (found_in result) (lent block.new bank.new [] [] []) ≡ fresh_start status_word (lent block.old bank.old [] [] []) }
+{
+    let Some(block) = block.as_mut_array::<16384>() else {
+        return Err(Refusal::Length);
+    };
+    let Some(bank) = bank.as_mut_array::<6656>() else {
+        return Err(Refusal::Length);
+    };
+    block::encode(block, kernel::fresh::fresh_kernel(status_word));
+    codec::put_zeros(bank, 0, 6656);
+    Ok(())
+}
+
+// The work as C gets it: 0, or the number of the refusal.
 pub fn operate(block: &mut [u8], bank: &mut [u8], status_word: u32) -> u32
     ensures { back result (lent block.new bank.new [] [] []) ≡ fresh_start status_word (lent block.old bank.old [] [] []) }
 {
-    if block.len() != 16384 {
-        return 1;
+    match work(block, bank, status_word) {
+        Ok(()) => 0,
+        Err(r) => u32::from(r),
     }
-    if bank.len() != 6656 {
-        return 1;
-    }
-    block::encode(block, kernel::fresh::fresh_kernel(status_word));
-    codec::put_zeros(bank, 0, 6656);
-    0
 }

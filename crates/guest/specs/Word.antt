@@ -1,13 +1,11 @@
 -- Which calls write a word: only one that reads it. Assumes nothing.
-use Rattle.std.specs.Prelude.{◌≡◌, Bool, true, false, not, ◌⊎◌, eqb, leb, ltb, get_or}
+use Rattle.std.specs.Prelude.{◌≡◌, Bool, true, false, not, ◌⊎◌, eqb, leb, ltb, get_or, Option, Some, None}
 use Rattle.std.proofs.Math.Path.{refl}
 use Rattle.std.proofs.Common.{ap, sym, subst, inl, inr, arith, eq-eqb, ne_eqb, eqb-true, le-leb, leb-true, leb-false, ltb-false}
 use mathlib.Core.List.{List, [], ◌∷◌}
 use Prim.Native.Nat.{ℕ, ◌+◌, ◌*◌, ◌≤◌, ◌<◌}
 use Rattle.std.proofs.lemmas.Bool.{eqb-false}
 use Rattle.laws.specs.Logic.{pick, ◌and◌, and-true, true-and, false-true}
-use Rattle.types.specs.declared.thread.ThreadOption.{ThreadOption}
-use Rattle.types.specs.declared.thread.ThreadOption.TheVariants.{NoThread, SomeThread}
 use Rattle.types.specs.declared.object.KObject.{KObject}
 use Rattle.types.specs.declared.object.KObject.TheVariants.{Free, Thread, Event, Mutex, Semaphore, Timer, AddressArbiter, Process, ResourceLimit}
 use Rattle.types.specs.declared.object.ObjectStore.{ObjectStore}
@@ -17,15 +15,11 @@ use Rattle.object.specs.declared.kept.Resolved.{Resolved}
 use Rattle.kernel.specs.NextEvent.{contains}
 use Rattle.pass.specs.Signal.{is_signaled}
 use Rattle.pass.specs.Waits.{satisfied_at}
-use Rattle.pass.specs.declared.IndexOption.{IndexOption}
-use Rattle.pass.specs.declared.IndexOption.TheVariants.{NoIndex, SomeIndex}
 use Rattle.types.specs.declared.thread.WaitSyscall.{WaitSyscall}
 use Rattle.types.specs.declared.thread.WaitSyscall.TheVariants.{WaitSynchronization1, WaitSynchronizationN}
 use Rattle.types.specs.Sync.{arbitration_from_raw}
 use Rattle.types.specs.Thread.{wait_list}
 use Rattle.svc.specs.declared.Registers.{Registers}
-use Rattle.svc.specs.declared.WordOption.{WordOption}
-use Rattle.svc.specs.declared.WordOption.TheVariants.{NoWord, SomeWord}
 use Rattle.svc.specs.declared.Served.{Served}
 use Rattle.svc.specs.Call.{with_objects, pair, resolved, create_object}
 use Rattle.svc.specs.Threads as threads
@@ -38,25 +32,25 @@ use Rattle.svc.specs.Table.{known?}
 use Rattle.svc.specs.Dispatch.{words_read, in_window, outside?, runs?, too_many?, refusal, handle_call, signal_call, lock_call, call}
 
 -- a word that is written has its place in the window of len bytes from base
-abbrev pub word_fits : ℕ → ℕ → ℕ → WordOption → Bool
-word_fits base len a NoWord = true
-word_fits base len a (SomeWord v) = leb base a and leb (a + 4) (base + len)
+abbrev pub word_fits : ℕ → ℕ → ℕ → Option ℕ → Bool
+word_fits base len a None = true
+word_fits base len a (Some v) = leb base a and leb (a + 4) (base + len)
 
 abbrev Wordless : Served → Type 0
-Wordless s = s.word ≡ NoWord
+Wordless s = s.word ≡ None
 
 either : (b : Bool) (x y : Served) → Wordless x → Wordless y → Wordless (pick b x y)
 either true x y p q = p
 either false x y p q = q
 
 -- ---- each call but 0x22
-exit-as : (c : ThreadOption) (k : Kernel) → Wordless (threads.exit_as c k)
-exit-as NoThread k = refl
-exit-as (SomeThread c) k = refl
+exit-as : (c : Option ℕ) (k : Kernel) → Wordless (threads.exit_as c k)
+exit-as None k = refl
+exit-as (Some c) k = refl
 
-priority_as : (t : ThreadOption) (k : Kernel) (p : ℕ) → Wordless (threads.set_priority_as t k p)
-priority_as NoThread k p = refl
-priority_as (SomeThread t) k p = refl
+priority_as : (t : Option ℕ) (k : Kernel) (p : ℕ) → Wordless (threads.set_priority_as t k p)
+priority_as None k p = refl
+priority_as (Some t) k p = refl
 
 mutex_as : (x : KObject) (k : Kernel) (o : ℕ) → Wordless (sync.release_mutex_as x k o)
 mutex_as (Free n) k o = refl
@@ -91,21 +85,21 @@ timer_as (AddressArbiter x) k o a b tick = refl
 timer_as Process k o a b tick = refl
 timer_as ResourceLimit k o a b tick = refl
 
-unless : (k : Kernel) (c : ℕ) (os : List ℕ) (all : Bool) (nanos tick : ℕ) (s : WaitSyscall) → Wordless (waits.wait_unless k c os all nanos tick s)
+unless : (k : Kernel) (c : ℕ) (os : List ℕ) (all : Bool) (nanos tick : ℕ) (s : Option WaitSyscall) → Wordless (waits.wait_unless k c os all nanos tick s)
 unless k c os all nanos tick s = either (eqb nanos 0) _ _ refl refl
 
-wait1-as : (c : ThreadOption) (k : Kernel) (o nanos tick : ℕ) → Wordless (waits.wait1_as c k o nanos tick)
-wait1-as NoThread k o nanos tick = refl
-wait1-as (SomeThread c) k o nanos tick =
-    either (is_signaled k.threads (object_at k.objects o) c) _ _ refl (unless k c (o ∷ []) false nanos tick WaitSynchronization1)
+wait1-as : (c : Option ℕ) (k : Kernel) (o nanos tick : ℕ) → Wordless (waits.wait1_as c k o nanos tick)
+wait1-as None k o nanos tick = refl
+wait1-as (Some c) k o nanos tick =
+    either (is_signaled k.threads (object_at k.objects o) c) _ _ refl (unless k c (o ∷ []) false nanos tick (Some WaitSynchronization1))
 
-take_at_lem : (i : IndexOption) (k : Kernel) (c : ℕ) (os : List ℕ) (all : Bool) (nanos tick : ℕ) → Wordless (waits.take_at i k c os all nanos tick)
-take_at_lem NoIndex k c os all nanos tick = unless k c os all nanos tick WaitSynchronizationN
-take_at_lem (SomeIndex i) k c os all nanos tick = refl
+take_at_lem : (i : Option ℕ) (k : Kernel) (c : ℕ) (os : List ℕ) (all : Bool) (nanos tick : ℕ) → Wordless (waits.take_at i k c os all nanos tick)
+take_at_lem None k c os all nanos tick = unless k c os all nanos tick (Some WaitSynchronizationN)
+take_at_lem (Some i) k c os all nanos tick = refl
 
-wait_n_as : (c : ThreadOption) (k : Kernel) (os : List ℕ) (all : Bool) (nanos tick : ℕ) → Wordless (waits.wait_nas c k os all nanos tick)
-wait_n_as NoThread k os all nanos tick = refl
-wait_n_as (SomeThread c) k os all nanos tick = take_at_lem (satisfied_at k.threads k.objects c all os) k c os all nanos tick
+wait_n_as : (c : Option ℕ) (k : Kernel) (os : List ℕ) (all : Bool) (nanos tick : ℕ) → Wordless (waits.wait_nas c k os all nanos tick)
+wait_n_as None k os all nanos tick = refl
+wait_n_as (Some c) k os all nanos tick = take_at_lem (satisfied_at k.threads k.objects c all os) k c os all nanos tick
 
 module _ (k : Kernel) (r : Registers) (tick : ℕ) where
   exits : Wordless (threads.exit_thread k)
@@ -212,7 +206,7 @@ module _ (n : ℕ) (k : Kernel) (r : Registers) (words : List ℕ) (tick : ℕ) 
       (either (eqb n 0x0A) _ _ refl
       (either (eqb n 0x0C) _ _ (sets-priority k r tick) locks_none)))
 
-pub word_none : (n : ℕ) (k : Kernel) (r : Registers) (words : List ℕ) (tick : ℕ) → words_read n r ≡ 0 → (call n k r words tick).word ≡ NoWord
+pub word_none : (n : ℕ) (k : Kernel) (r : Registers) (words : List ℕ) (tick : ℕ) → words_read n r ≡ 0 → (call n k r words tick).word ≡ None
 word_none n k r words tick e = call_none n k r words tick quiet
   where
     quiet : eqb n 0x22 ≡ true → Wordless (arbiter.arbitrate_address k r (get_or words 0 0) tick)
@@ -240,9 +234,9 @@ room base len number r e z = go (in_window base len r.r1 (words_read number r)) 
         (leb-true base r.r1 s.0, leb-true (r.r1 + 4 * words_read number r) (base + len) s.1)
     go false p q = false-true (sym q)
 
-has-place : (base len a : ℕ) (w : WordOption) → base ≤ a → a + 4 ≤ base + len → word_fits base len a w ≡ true
-has-place base len a NoWord g h = refl
-has-place base len a (SomeWord v) g h = true-and _ _ (le-leb base a g) (le-leb (a + 4) (base + len) h)
+has-place : (base len a : ℕ) (w : Option ℕ) → base ≤ a → a + 4 ≤ base + len → word_fits base len a w ≡ true
+has-place base len a None g h = refl
+has-place base len a (Some v) g h = true-and _ _ (le-leb base a g) (le-leb (a + 4) (base + len) h)
 
 -- the word that a call writes is one that question 6 asked for
 pub word_fits_lem : (base len number : ℕ) (k : Kernel) (r : Registers) (words : List ℕ) (tick : ℕ) → outside? base len number r ≡ false
@@ -250,7 +244,7 @@ pub word_fits_lem : (base len number : ℕ) (k : Kernel) (r : Registers) (words 
 word_fits_lem base len number k r words tick e = go (eqb (words_read number r) 0) refl
   where
     go : (b : Bool) → eqb (words_read number r) 0 ≡ b → word_fits base len r.r1 (call number k r words tick).word ≡ true
-    go true p = ap (λ (w : WordOption). word_fits base len r.r1 w) (word_none number k r words tick (eqb-true _ 0 p))
+    go true p = ap (λ (w : Option ℕ). word_fits base len r.r1 w) (word_none number k r words tick (eqb-true _ 0 p))
     go false p =
         let h = room base len number r e (eqb-false _ 0 p) in
         has-place base len r.r1 (call number k r words tick).word h.0 (omega (arith, h.1, eqb-false (words_read number r) 0 p))

@@ -5,41 +5,31 @@ ghost use Rattle.svc.specs.Table.{row_of, written};
 ghost use Rattle.svc.specs.Dispatch.{given};
 ghost use Rattle.lent.specs.Guest as def;
 
-use svc::{Registers, WordOption};
+use block::context::Processor;
+use svc::Registers;
 
-fn registers_at(processor: &[u8]) -> Registers
-    requires { length processor.now ≡ 208 }
+fn registers_at(processor: &Processor) -> Registers
     ensures { result ≡ def.registers processor.now }
 {
-    let r0 = codec::get32(processor, 0);
-    let r1 = codec::get32(processor, 4);
-    let r2 = codec::get32(processor, 8);
-    let r3 = codec::get32(processor, 12);
-    let r4 = codec::get32(processor, 16);
-    let r5 = codec::get32(processor, 20);
     Registers {
-        r0: r0,
-        r1: r1,
-        r2: r2,
-        r3: r3,
-        r4: r4,
-        r5: r5,
+        r0: codec::get32(processor, 0),
+        r1: codec::get32(processor, 4),
+        r2: codec::get32(processor, 8),
+        r3: codec::get32(processor, 12),
+        r4: codec::get32(processor, 16),
+        r5: codec::get32(processor, 20),
     }
 }
 
 // The registers that the call may read; the others are 0.
-pub fn registers_for(number: u32, processor: &[u8]) -> Registers
-    requires { length processor.now ≡ 208 }
+pub fn registers_for(number: u32, processor: &Processor) -> Registers
     ensures { result ≡ given number (def.registers processor.now) }
 {
-    let row = table::row_of(number);
-    let r = registers_at(processor);
-    table::registers::read_by(row.reads, r)
+    table::registers::read_by(table::row_of(number).reads, registers_at(processor))
 }
 
 // r0 and r1, as far as the call may write them.
-pub fn put_registers(processor: &mut [u8], number: u32, r0: WordOption, r1: WordOption)
-    requires { length processor.old ≡ 208 }
+pub fn put_registers(processor: &mut Processor, number: u32, r0: Option<u32>, r1: Option<u32>)
     ensures { processor.new ≡ over (over processor.old 0 (bytes 4 (written (row_of number).writes 1 r0 (le 4 processor.old 0)))) 4 (bytes 4 (written (row_of number).writes 2 r1 (le 4 processor.old 4))) }
 {
     let row = table::row_of(number);

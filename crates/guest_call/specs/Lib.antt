@@ -1,2 +1,3 @@
 -- The place of a thread that a call makes.
 pub mod Made
+pub mod Answered

@@ -1,10 +1,10 @@
 -- DuplicateHandle with no room for another handle. Assumes nothing.
+use Rattle.std.specs.Prelude.{Result, Ok, Err}
 use mathlib.Core.Path.{◌≡◌, refl, sym, ap, ◌∙◌}
 use mathlib.Core.Bool.{true, false}
 use mathlib.Core.List.{List}
 use mathlib.Core.Logic.{◌≢◌}
 use Prim.Native.Nat.{ℕ, ◌<◌}
-use native.Mathlib.Omega.{arith}
 use native.Mathlib.Decide.{ℕ_discrete}
 use lib.Dec.{leb}
 use borrow.Author.Tests.{eq-eqb, ne_eqb, leb-false}
@@ -25,8 +25,11 @@ use Rattle.svc.specs.Call.{answers, gives, with_handles, with_objects, resolved}
 use Rattle.svc.specs.Handles.{duplicate_handle}
 use Rattle.lent.specs.Operations.{finding, out_of_handles?}
 use Rattle.rows.specs.Holds.{holds}
-use Rattle.outcome.specs.Outcome.{refused, answered, accepted, outcome, left, outcome-0, outcome-found, left-0, left-found}
-use Rattle.outcome.specs.Findings.{found_of, none_found, next-over, both-finding}
+use Rattle.types.specs.declared.refusal.Refusal.{Refusal}
+use Rattle.types.specs.declared.refusal.Refusal.TheVariants.{Full}
+use Rattle.types.specs.Refusal.{refusal_number, refusal-some, unless_found}
+use Rattle.outcome.specs.Outcome.{answered, accepted, outcome, left, outcome-0, outcome-found, left-0, left-found}
+use Rattle.outcome.specs.Findings.{found_of, none_found, room-none, room-refused, next-over, both-finding}
 use Rattle.objects.specs.Open.{no_room, Names}
 use Rattle.objects.proofs.Room.{opened-full, opened-sum, opened-finding}
 
@@ -57,49 +60,60 @@ module _ (b : List ℕ) (s : sound? b ≡ true) (r : Registers) where
       both-finding b t (add_ref x.store x.object.0)
       ∙ (λ i. found_of ((ap (λ (z : ObjectStore). z.full) y ∙ opened-full b r.r1) i or leb 256 k.handles.count) ((ap (λ (z : ObjectStore). z.overflow) y ∙ opened-sum b r.r1) i or next-over k.handles.next.0 i))
 
-  refuses : (n : ℕ) → finding call.kernel ≡ n → n ≢ 0 → (refused n ≡ outcome call) × (b ≡ left call b)
-  refuses n f z = (sym (outcome-found call n f z), sym (left-found call b (λ w. z (sym f ∙ w))))
+  refuses : (y : Refusal) → finding call.kernel ≡ refusal_number y → (Err y ≡ outcome call) × (b ≡ left call b)
+  refuses y f = (sym (outcome-found call y f), sym (left-found call b (λ w. refusal-some y (sym f ∙ w))))
 
-  seven : ◌≢◌ {A = ℕ} 7 0
-  seven e = omega (arith, e)
-
-  eight : ◌≢◌ {A = ℕ} 8 0
-  eight e = omega (arith, e)
-
-  pub no-slot : no_room k r.r1 ≡ true → (refused 7 ≡ outcome call) × (b ≡ left call b)
+  pub no-slot : no_room k r.r1 ≡ true → (Err Full ≡ outcome call) × (b ≡ left call b)
   unfolding ◌or◌
   no-slot e = elim (ℕ_discrete x.object.0 0) [
-    | yes z ↦ refuses 7 (ap (λ (v : Served). finding v.kernel) (sym (unknown z)) ∙ opened-finding b r.r1 ∙ rw e) seven
-    | no z ↦ refuses 7 (ap (λ (v : Served). finding v.kernel) (sym (known z)) ∙ given-finding ∙ rw e) seven
+    | yes z ↦ refuses Full (ap (λ (v : Served). finding v.kernel) (sym (unknown z)) ∙ opened-finding b r.r1 ∙ rw e)
+    | no z ↦ refuses Full (ap (λ (v : Served). finding v.kernel) (sym (known z)) ∙ given-finding ∙ rw e)
   ]
 
   module _ (e : no_room k r.r1 ≡ false) where
-    pub no_handle : Names k r.r1 true → (n : ℕ) → n ≡ found_of (leb 256 k.handles.count) (leb 0xFFFF8000 k.handles.next.0) → n ≢ 0 → (refused n ≡ outcome call) × (b ≡ left call b)
+    pub no_handle : Names k r.r1 true → (y : Refusal) → refusal_number y ≡ found_of (leb 256 k.handles.count) (leb 0xFFFF8000 k.handles.next.0) → (Err y ≡ outcome call) × (b ≡ left call b)
     unfolding ◌or◌
-    no_handle p n f z = refuses n (ap (λ (v : Served). finding v.kernel) (sym (known (p.some refl e))) ∙ given-finding ∙ rw e (sym f)) z
+    no_handle p y f = refuses y (ap (λ (v : Served). finding v.kernel) (sym (known (p.some refl e))) ∙ given-finding ∙ rw e (sym f))
 
     module _ (p : Names k r.r1 false) where
       object-is : x.object.0 ≡ 0
       object-is = ap (λ (y : Resolved). y.object.0) (p.none refl)
 
-      pub used_up : out_of_handles? k ≡ true → (refused 8 ≡ outcome call) × (b ≡ left call b)
-      used_up q = refuses 8 (ap (λ (v : Served). finding v.kernel) (sym (unknown object-is)) ∙ opened-finding b r.r1 ∙ rw (e, q)) eight
+      opened : finding call.kernel ≡ found_of false (out_of_handles? k)
+      opened = ap (λ (v : Served). finding v.kernel) (sym (unknown object-is)) ∙ opened-finding b r.r1 ∙ rw e refl
 
-      pub not_known : out_of_handles? k ≡ false → (answered 16 ≡ outcome call) × (b ≡ left call b)
+      pub used_up : (y : Refusal) → found_of false (out_of_handles? k) ≡ refusal_number y → (Err y ≡ outcome call) × (b ≡ left call b)
+      used_up y q = refuses y (opened ∙ q)
+
+      pub not_known : found_of false (out_of_handles? k) ≡ 0 → (Ok (answered 16) ≡ outcome call) × (b ≡ left call b)
       not_known q =
-          let f : finding call.kernel ≡ 0 = ap (λ (v : Served). finding v.kernel) (sym (unknown object-is)) ∙ opened-finding b r.r1 ∙ rw (e, q) in
+          let f : finding call.kernel ≡ 0 = opened ∙ q in
           let w : answers 16 k ≡ call = ap (λ (y : Resolved). answers 16 (with_objects k y.store)) (sym (p.none refl)) ∙ unknown object-is in
-          (ap accepted w ∙ sym (outcome-0 call f), (holds b s).same ∙ ap (λ (v : Served). enc_block v.kernel) w ∙ sym (left-0 call b f))
+          (ap Ok (ap accepted w) ∙ sym (outcome-0 call f), (holds b s).same ∙ ap (λ (v : Served). enc_block v.kernel) w ∙ sym (left-0 call b f))
 
--- room for a handle
-pub room_for : (f n m : ℕ) → f ≡ found_of (leb 256 n) (leb 0xFFFF8000 m) → f ≡ 0 → (n < 256) × (m < 0xFFFF8000)
-room_for f n m e z = let w = none_found (leb 256 n) (leb 0xFFFF8000 m) (sym e ∙ z) in (leb-false 256 n w.0, leb-false 0xFFFF8000 m w.1)
+-- ---- room for a handle, asked of how many there are and of the next as they are read
+module _ (b : List ℕ) (n m : ℕ) (e : n ≡ le 4 b 40) (f : m ≡ le 4 b 44) where
+  abbrev asked : Result Unit Refusal
+  asked = unless_found (found_of (leb 256 n) (leb 0xFFFF8000 m)) tt
 
--- how many handles there are, and the next, as they are read
-pub count-is : (b : List ℕ) → le 4 b 40 ≡ (dec_block b).handles.count
-unfolding dec_block dec_as
-count-is b = refl
+  found-is : found_of (leb 256 n) (leb 0xFFFF8000 m) ≡ found_of (leb 256 (dec_block b).handles.count) (leb 0xFFFF8000 (dec_block b).handles.next.0)
+  unfolding dec_block dec_as
+  found-is = λ i. found_of (leb 256 (e i)) (leb 0xFFFF8000 (f i))
 
+  pub lacks-room : (r : Result Unit Refusal) → r ≡ asked → (y : Refusal) → r ≡ Err y
+      → refusal_number y ≡ found_of (leb 256 (dec_block b).handles.count) (leb 0xFFFF8000 (dec_block b).handles.next.0)
+  lacks-room r q y g = sym (room-refused _ _ tt y (sym q ∙ g)) ∙ found-is
+
+  pub has_room : (r : Result Unit Refusal) → r ≡ asked → ((y : Refusal) → r ≡ Err y → ⊥) → ((dec_block b).handles.count < 256) × ((dec_block b).handles.next.0 < 0xFFFF8000)
+  has_room r q z = go r refl
+    where
+      go : (x : Result Unit Refusal) → r ≡ x → ((dec_block b).handles.count < 256) × ((dec_block b).handles.next.0 < 0xFFFF8000)
+      go (Ok u) g =
+          let w = none_found _ _ (sym found-is ∙ room-none _ _ tt u (sym q ∙ g)) in
+          (leb-false 256 _ w.0, leb-false 0xFFFF8000 _ w.1)
+      go (Err y) g = absurd (z y g)
+
+-- the next handle, as it is read
 pub next-is : (b : List ℕ) → le 4 b 44 ≡ (dec_block b).handles.next.0
 unfolding dec_block dec_as
 next-is b = refl

@@ -9,27 +9,24 @@ ghost use Rattle.svc.specs.Handles as def;
 ghost use Rattle.rows.specs.Holds.{Holds, with_table, with_entries};
 ghost use Rattle.outcome.specs.Outcome.{outcome, left};
 
-use block::{Head, record};
+use block::{Block, Head, record};
 use codec::Four;
-use object::handles;
 use outcome::Outcome;
 use rows::{read, write};
 use svc::Registers;
 use types::object::HandleEntry;
+use types::refusal::Refusal;
 use units::{Handle, ObjectId};
 
 // The entry at place i is taken out, and those after it move up.
-fn remove_entry(block: &mut [u8], i: usize)
-    requires block_len { length block.old ≡ 16384 }
+fn remove_entry(block: &mut Block, i: usize)
     requires encoded { Encoded block.old }
     requires i_bound { i < 256 }
     ensures { Holds block.new (with_table (dec_block block.old) (with_entries (dec_block block.old).handles (without (dec_block block.old).handles.entries i))) }
 {
-    let mut j = i;
-    while j < 255 {
+    for j in i..255 {
         let e = record::entry_at(block, j + 1);
         write::put_entry(block, j as u32, e);
-        j += 1;
     }
     write::put_entry(
         block,
@@ -42,42 +39,27 @@ fn remove_entry(block: &mut [u8], i: usize)
 }
 
 // One handle fewer.
-fn take_out(block: &mut [u8], i: usize)
-    requires block_len { length block.old ≡ 16384 }
+fn take_out(block: &mut Block, i: usize)
     requires encoded { Encoded block.old }
     requires i_bound { i < 256 }
     ensures { Holds block.new (with_table (dec_block block.old) (taken_out (dec_block block.old).handles i)) }
 {
     let head = block::get_head(block);
-    let p = head.a;
-    let q = head.b;
-    let c = head.c;
-    let d = head.d;
     remove_entry(block, i);
-    write::put_head(
-        block,
-        Head {
-            a: p,
-            b: q,
-            c: Four(c.0, c.1, handles::less(c.2), c.3),
-            d: d,
-        },
-    );
+    let c = Four(head.c.0, head.c.1, head.c.2.saturating_sub(1), head.c.3);
+    write::put_head(block, Head { c, ..head });
 }
 
-// The object loses a holder and the handle its entry; an unknown handle has no object. The entry itself is taken out, so it is
-// found by its place and not by resolve, as the Rust's `close` removes it from its map.
-fn put_closed(block: &mut [u8], h: Handle)
-    requires block_len { length block.old ≡ 16384 }
+// The object loses a holder and the handle its entry; an unknown handle has no object. The entry itself is taken out,
+// so it is found by its place and not by resolve, as the Rust's `close` removes it from its map.
+fn put_closed(block: &mut Block, h: Handle)
     requires block_value { sound? block.old ≡ true }
     ensures { Holds block.new (with_handles (dec_block block.old) (close (dec_block block.old).handles (dec_block block.old).objects h.0).table (close (dec_block block.old).handles (dec_block block.old).objects h.0).store) }
 {
-    let i = read::place_of(block, h);
-    if 256 <= i {
+    let Some(i) = read::place_of(block, h) else {
         return;
-    }
-    let e = record::entry_at(block, i);
-    let o = e.object;
+    };
+    let o = record::entry_at(block, i).object;
     if o.0 == 0 {
         return;
     }
@@ -86,15 +68,12 @@ fn put_closed(block: &mut [u8], h: Handle)
 }
 
 // r0 handle.
-pub fn close_handle(block: &mut [u8], r: Registers) -> Outcome
-    requires block_len { length block.old ≡ 16384 }
+pub fn close_handle(block: &mut Block, r: Registers) -> Result<Outcome, Refusal>
     requires block_value { sound? block.old ≡ true }
     ensures value { result ≡ outcome (def.close_handle (dec_block block.old) r) }
     ensures block_after { block.new ≡ left (def.close_handle (dec_block block.old) r) block.old }
 {
-    if outcome::out_of_handles(block) {
-        return outcome::refused(8);
-    }
+    outcome::room(false, outcome::out_of_handles(block))?;
     put_closed(block, Handle(r.r0));
-    outcome::done()
+    Ok(outcome::done())
 }

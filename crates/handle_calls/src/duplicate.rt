@@ -9,91 +9,70 @@ ghost use Rattle.svc.specs.Handles as def;
 ghost use Rattle.rows.specs.Holds.{Holds};
 ghost use Rattle.outcome.specs.Outcome.{outcome, left};
 ghost use Rattle.outcome.specs.Findings.{found_of};
+ghost use Rattle.types.specs.Refusal.{refusal_number};
 
-use block::Head;
+use block::{Block, Head};
 use codec::Four;
 use objects::open;
-use outcome::Outcome;
+use outcome::{Answer, Outcome};
 use rows::{read, write};
 use svc::Registers;
 use types::object::HandleEntry;
+use types::refusal::Refusal;
 use units::{Handle, ObjectId};
 
 // The handle goes behind the last one, which has room, and the object has one holder more.
-fn put_duplicate(block: &mut [u8], o: ObjectId)
-    requires block_len { length block.old ≡ 16384 }
+fn put_duplicate(block: &mut Block, o: ObjectId)
     requires block_value { sound? block.old ≡ true }
     requires block_bound { (dec_block block.old).handles.count < 256 }
     requires block_bound_2 { (dec_block block.old).handles.next.0 < 0xFFFF8000 }
     ensures { Holds block.new (with_handles (dec_block block.old) (give (dec_block block.old).handles o.0) (add_ref (dec_block block.old).objects o.0)) }
 {
     let head = block::get_head(block);
-    let p = head.a;
-    let q = head.b;
-    let c = head.c;
-    let d = head.d;
     let old = read::slot_at(block, o);
     write::put_slot(block, o, object::store::held(old));
-    write::put_entry(
-        block,
-        c.2,
-        HandleEntry {
-            handle: Handle(c.3),
-            object: o,
-        },
-    );
-    write::put_head(
-        block,
-        Head {
-            a: p,
-            b: q,
-            c: Four(c.0, c.1, c.2 + 1, c.3 + 1),
-            d: d,
-        },
-    );
+    let entry = HandleEntry {
+        handle: Handle(head.c.3),
+        object: o,
+    };
+    write::put_entry(block, head.c.2, entry);
+    let c = Four(head.c.0, head.c.1, head.c.2 + 1, head.c.3 + 1);
+    write::put_head(block, Head { c, ..head });
 }
 
-// With no room for another handle, which found says, the call is refused or its handle is unknown. The block stays as it is.
-fn without_room(block: &[u8], r: Registers, found: u32) -> Outcome
-    requires block_len { length block.now ≡ 16384 }
+// With no room for another handle, which the refusal says, the call is refused or its handle is unknown. The block
+// stays as it is.
+fn without_room(block: &Block, r: Registers, refusal: Refusal) -> Result<Outcome, Refusal>
     requires block_value { sound? block.now ≡ true }
-    requires found_value { found ≡ found_of (leb 256 (dec_block block.now).handles.count) (leb 0xFFFF8000 (dec_block block.now).handles.next.0) }
-    requires fact { found ≡ 0 → ⊥ }
+    requires refusal_value { refusal_number refusal ≡ found_of (leb 256 (dec_block block.now).handles.count) (leb 0xFFFF8000 (dec_block block.now).handles.next.0) }
     ensures value { result ≡ outcome (def.duplicate_handle (dec_block block.now) r) }
     ensures block_value_2 { block.now ≡ left (def.duplicate_handle (dec_block block.now) r) block.now }
 {
     if open::no_room(block, Handle(r.r1)) {
-        return outcome::refused(7);
+        return Err(Refusal::Full);
     }
     if open::names(block, Handle(r.r1)) {
-        return outcome::refused(found);
+        return Err(refusal);
     }
-    if outcome::out_of_handles(block) {
-        return outcome::refused(8);
-    }
-    outcome::answers(16)
+    outcome::room(false, outcome::out_of_handles(block))?;
+    Ok(outcome::answers(Answer::UnknownHandle))
 }
 
 // r1 handle; r1 gets another.
-pub fn duplicate_handle(block: &mut [u8], r: Registers) -> Outcome
-    requires block_len { length block.old ≡ 16384 }
+pub fn duplicate_handle(block: &mut Block, r: Registers) -> Result<Outcome, Refusal>
     requires block_value { sound? block.old ≡ true }
     ensures value { result ≡ outcome (def.duplicate_handle (dec_block block.old) r) }
     ensures block_after { block.new ≡ left (def.duplicate_handle (dec_block block.old) r) block.old }
 {
+    let count = codec::get32(block, 40);
     let next = codec::get32(block, 44);
-    let room = outcome::found_of(256 <= codec::get32(block, 40), 0xFFFF8000 <= next);
-    if room != 0 {
-        return without_room(block, r, room);
+    if let Err(refusal) = outcome::room(256 <= count, 0xFFFF8000 <= next) {
+        return without_room(block, r, refusal);
     }
-    let a = open::resolve(block, Handle(r.r1));
-    if a.found != 0 {
-        return outcome::refused(a.found);
-    }
-    let o = a.object;
+    let o = open::resolve(block, Handle(r.r1))?;
     if o.0 == 0 {
-        return outcome::answers(16);
+        return Ok(outcome::answers(Answer::UnknownHandle));
     }
     put_duplicate(block, o);
-    outcome::gives(next)
+    Ok(outcome::gives(next))
 }

@@ -10,13 +10,15 @@ ghost use Rattle.sound.specs.Question.{sound?};
 ghost use Rattle.svc.specs.Arbiter as def;
 ghost use Rattle.outcome.specs.Outcome.{outcome, left};
 
+use block::Block;
 use objects::create;
 use outcome::Outcome;
 use types::object::KObject;
+use types::refusal::Refusal;
 use types::sync::AddressArbiter;
 
-pub fn create_address_arbiter(block: &mut [u8]) -> Outcome
-    requires block_len { length block.old ≡ 16384 }
+#[tactic(auto, unfolding(svc::specs::Arbiter::create_address_arbiter))]
+pub fn create_address_arbiter(block: &mut Block) -> Result<Outcome, Refusal>
     requires block_value { sound? block.old ≡ true }
     ensures value { result ≡ outcome (def.create_address_arbiter (dec_block block.old)) }
     ensures block_after { block.new ≡ left (def.create_address_arbiter (dec_block block.old)) block.old }

@@ -64,7 +64,7 @@ module _ (base len number : ℕ) (r : Registers) (k : Kernel) where
   unfolding refusal
   call-refusal = refusal_as (known? number) (runs? k) (too_many? number r) (outside? base len number r)
 
-  -- a call that is not refused has a thread that runs, and 0x25 at most 8 handles
+  -- a call that is not refused has a thread that runs, and 0x25 at most 12 handles
   pub call-asked : refusal base len number r k ≡ 0 → (runs? k ≡ true) × (too_many? number r ≡ false)
   unfolding refusal
   call-asked z = refused_none (known? number) (runs? k) (too_many? number r) (outside? base len number r) z
@@ -88,7 +88,7 @@ given-fits number p h =
       r5 = masked-fits m 32 (le 4 p 20) (word_fits_lem p 20 h);
     }
 
--- at most 8 handles are read
+-- at most 12 handles are read
 pub few_words : (base number : ℕ) (w : List ℕ) (r : Registers) → too_many? number r ≡ false → eqb number 0x25 ≡ true → length (words_in base w number r) ≤ wait_list
 unfolding too_many? ◌and◌
 few_words base number w r t e =

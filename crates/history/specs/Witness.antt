@@ -1,10 +1,9 @@
 -- The premises of demand 3 can be met by lists of operations on bytes: after a fresh start on any 16,384 bytes, the entries that demand/specs/Witness.antt speaks of.
-use Rattle.std.specs.Prelude.{◌≡◌, true, List, [], ◌∷◌, ◌++◌, ℕ, ◌+◌, ◌*◌, ◌<◌, replicate}
+use Rattle.std.specs.Prelude.{◌≡◌, true, List, [], ◌∷◌, ◌++◌, ℕ, ◌+◌, ◌*◌, ◌<◌, replicate, None}
 use Rattle.std.proofs.Common.{arith}
 use Rattle.codec.specs.Bytes.{bytes}
 use Rattle.codec.proofs.Back.{Bytes}
 use Rattle.codec.proofs.Fit.{bytes_append, bytes-bytes, bytes_zeros}
-use Rattle.types.specs.declared.thread.TickOption.TheVariants.{NoTick}
 use Rattle.kernel.specs.Fresh.{fresh}
 use Rattle.svc.specs.declared.Registers.{Registers}
 use Rattle.demand.specs.Words.{Event, cut_off}
@@ -135,7 +134,7 @@ abbrev pub Repeats : Event → List Event → Type 0
 Repeats = shown.Armed 1 10 1000 2000 (cut_off 278 ∷ cut_off (278 + 1 * 536) ∷ cut_off (278 + 2 * 536) ∷ cut_off (278 + 3 * 536) ∷ [])
 
 abbrev pub FiresOnce : Event → List Event → Type 0
-FiresOnce = shown.Armed 1 10 1000 0 (cut_off 278 ∷ NoTick ∷ [])
+FiresOnce = shown.Armed 1 10 1000 0 (cut_off 278 ∷ None ∷ [])
 
 -- ---- computed on states: every operation is accepted, and its entries are those of demand/specs/Witness.antt
 pub record Found (P : Event → List Event → Type 0) (ops : List Op) : Type 0 where

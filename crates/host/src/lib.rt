@@ -1,5 +1,5 @@
-// The C interface: every export, with its whole contract. An export is lent byte slices and returns one number: 0, a kernel answer, or a
-// refusal. lent/specs has the definitions.
+// The C interface: every export, with its whole contract. An export is lent byte slices and returns one number: 0, a
+// kernel answer, or a refusal. lent/specs has the definitions.
 #![tactic(auto)]
 
 ghost use Rattle.std.specs.Prelude.{◌≡◌, []};

@@ -1,12 +1,12 @@
 -- A loop that fills an array with cells in a row. Assumes nothing.
 use mathlib.Core.Path.{◌≡◌, refl, ap, sym, ◌∙◌}
-use mathlib.Core.List.{List, [], ◌∷◌, ◌++◌, append_assoc}
-use Prim.Native.Nat.{ℕ, suc, ◌+◌, ◌-◌, ◌<◌}
+use mathlib.Core.List.{List, ◌∷◌, ◌++◌, append_assoc, append-nil}
+use Prim.Native.Nat.{ℕ, suc, ◌+◌, ◌-◌, ◌≤◌, ◌<◌}
 use native.Mathlib.Numerals.{add-one}
 use native.Mathlib.Omega.{arith}
 use lib.Dec.{eqb}
 use lib.ListN.{length, set, take}
-use lib.Seq.{take-suc-set}
+use lib.Seq.{take-suc-set, take_all}
 use Rattle.laws.specs.Logic.{pick}
 use Rattle.kernel.specs.Fresh.{in_row}
 
@@ -14,9 +14,11 @@ row_one : {A : Type 0} (cell : ℕ → A) (m k : ℕ) → in_row cell (suc m) k 
 unfolding in_row
 row_one cell m k = refl
 
-pub row-end : {A : Type 0} (cell : ℕ → A) (k : ℕ) → in_row cell 0 k ≡ []
+pub row_done : {A : Type 0} (cell : ℕ → A) (n : ℕ) (l : List A) (i k : ℕ) → n ≤ i → length l ≡ n → take i l ++ in_row cell (n - i) k ≡ in_row cell n 2 → l ≡ in_row cell n 2
 unfolding in_row
-row-end cell k = refl
+row_done cell n l i k h e f =
+    let a : n - i ≡ 0 = omega arith in
+    sym (append-nil _ ∙ take_all i l (omega arith)) ∙ rw a at f
 
 pub row_step : {A : Type 0} (cell : ℕ → A) (n : ℕ) (l : List A) (i : ℕ) → i < n → length l ≡ n → take i l ++ in_row cell (n - i) (i + 2) ≡ in_row cell n 2
     → take (i + 1) (set l i (cell (pick (eqb (n - 1 - i) 0) 0 (i + 2)))) ++ in_row cell (n - (i + 1)) (i + 1 + 2) ≡ in_row cell n 2

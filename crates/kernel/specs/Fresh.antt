@@ -1,12 +1,7 @@
 -- A kernel as it starts (`Kernel::new` of mod.rs): no threads, no objects, no handles; the free chains run 1, 2, 3 ..
-use Rattle.std.specs.Prelude.{false, List, [], ◌∷◌, ℕ, zero, suc, ◌+◌, eqb, replicate}
+use Rattle.std.specs.Prelude.{false, List, [], ◌∷◌, ℕ, zero, suc, ◌+◌, eqb, replicate, None}
 use Rattle.laws.specs.Logic.{pick}
-use Rattle.types.specs.declared.thread.ThreadOption.TheVariants.{NoThread}
-use Rattle.types.specs.declared.thread.TickOption.TheVariants.{NoTick}
-use Rattle.types.specs.declared.thread.AddressOption.TheVariants.{NoAddress}
 use Rattle.types.specs.declared.thread.ThreadStatus.TheVariants.{Dead}
-use Rattle.types.specs.declared.thread.WaitResult.TheVariants.{NoResult}
-use Rattle.types.specs.declared.thread.WaitSyscall.TheVariants.{NoSyscall}
 use Rattle.types.specs.declared.thread.Thread.{Thread}
 use Rattle.types.specs.declared.object.KObject.TheVariants.{Free}
 use Rattle.types.specs.declared.object.Slot.{Slot}
@@ -45,12 +40,12 @@ blank_thread = record {
   wait_objects = replicate wait_list (record { 0 = 0 });
   wait_count = 0;
   wait_all = false;
-  wakeup_at = NoTick;
+  wakeup_at = None;
   running_since = record { 0 = 0 };
   waited = false;
-  wait_address = NoAddress;
-  wait_result = NoResult;
-  wait_syscall = NoSyscall;
+  wait_address = None;
+  wait_result = None;
+  wait_syscall = None;
   guest_id = 0;
 }
 
@@ -77,7 +72,7 @@ fresh w = record {
   handles = fresh_handles;
   threads = replicate 32 blank_thread;
   thread_count = 0;
-  current_thread = NoThread;
+  current_thread = None;
   next_tls_slot = 0;
   next_guest_id = 0;
   all_blocked = false;

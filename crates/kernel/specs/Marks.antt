@@ -1,5 +1,6 @@
 -- `next_event` as it is computed: the objects that blocked threads wait on are marked in an array.
-use Rattle.std.specs.Prelude.{◌≡◌, Bool, true, false, cond, ◌⊎◌, ℕ, zero, suc, ◌+◌, ◌≤◌, ◌<◌, eqb, ltb, length, get_or, replicate}
+use Rattle.units.specs.declared.Ticks.{Ticks}
+use Rattle.std.specs.Prelude.{◌≡◌, Bool, true, false, ◌⊎◌, ℕ, zero, suc, ◌+◌, ◌≤◌, ◌<◌, eqb, ltb, length, get_or, replicate, Option}
 use Rattle.std.proofs.Math.Path.{refl}
 use Rattle.std.proofs.Common.{ap, sym, ◌∙◌, inl, inr, arith, eqb-true, lt-ltb}
 use mathlib.Core.List.{List, [], ◌∷◌, ◌++◌, map}
@@ -9,14 +10,11 @@ use Rattle.laws.specs.Logic.{pick, ◌and◌, ◌or◌}
 use Rattle.laws.specs.All.{All}
 use Rattle.laws.specs.Count.{count, count_all, ind, ind-eq, ind-other}
 use Rattle.laws.specs.Tally.{tally_all, tally_all_get, zero_get, zero-le}
-use Rattle.types.specs.declared.thread.TickOption.{TickOption}
-use Rattle.types.specs.declared.thread.TickOption.TheVariants.{NoTick, SomeTick}
 use Rattle.types.specs.declared.thread.ThreadStatus.{ThreadStatus}
 use Rattle.types.specs.declared.thread.Thread.{Thread}
 use Rattle.types.specs.declared.object.Slot.{Slot}
 use Rattle.types.specs.Thread.{wait_list, is_blocked}
 use Rattle.sound.specs.View.{ids}
-use Rattle.kernel.specs.declared.next_event.Earliest.{Earliest}
 use Rattle.kernel.specs.NextEvent.{contains, waited_on, due_after, next_due}
 
 -- the list of a thread, if its status is one that is asked for
@@ -29,11 +27,7 @@ list_if t = list_by is_blocked t
 abbrev pub lists_if : List Thread → List (List ℕ)
 lists_if ts = map list_if ts
 
--- the tick in two words
-abbrev pub option : Earliest → TickOption
-option e = cond (eqb e.found 0) NoTick (SomeTick e.tick)
-
-unfoldable pub due_marked : List ℕ → TickOption → ℕ → List Slot → TickOption
+unfoldable pub due_marked : List ℕ → Option Ticks → ℕ → List Slot → Option Ticks
 due_marked m best o [] = best
 due_marked m best o (s ∷ ss) = due_marked m (due_after (ltb 0 (get_or m o 0)) best s) (suc o) ss
 
@@ -81,7 +75,7 @@ module _ (ts : List Thread) (n : length ts ≡ 32) (a : All (λ l. length l ≤ 
   unfolding waited_on
   marked o h = marks_tell is_blocked waited_on (λ o. refl) (λ t ts o. refl) ts n a o h
 
-  pub due-is : (best : TickOption) (o : ℕ) (l : List Slot) → o + length l ≤ 129 → due_marked (tally_all 129 (replicate 129 0) (lists_if ts)) best o l ≡ next_due ts best o l
+  pub due-is : (best : Option Ticks) (o : ℕ) (l : List Slot) → o + length l ≤ 129 → due_marked (tally_all 129 (replicate 129 0) (lists_if ts)) best o l ≡ next_due ts best o l
   unfolding due_marked next_due
   due-is best o [] h = refl
   due-is best o (s ∷ ss) h = rw (marked o (omega arith)) (due-is (due_after (waited_on ts o) best s) (suc o) ss (omega arith))

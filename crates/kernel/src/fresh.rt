@@ -5,10 +5,7 @@ ghost use Rattle.kernel.specs.Fresh.{free_slot, free_waiter, free_slots, free_wa
 
 use types::kernel::Kernel;
 use types::object::{HandleEntry, HandleTable, KObject, ObjectStore, Slot, Waiter};
-use types::thread::{
-    AddressOption, Thread, ThreadOption, ThreadStatus, TickOption, WAIT_LIST, WaitResult,
-    WaitSyscall,
-};
+use types::thread::{Thread, ThreadStatus, WAIT_LIST};
 use units::{Handle, ObjectId, Ticks};
 
 // The number after that of the cell with index i, of n cells; 0 after the last.
@@ -17,10 +14,7 @@ fn next_number(i: usize, n: usize) -> u32
     requires n_bound { n < 1000 }
     ensures { result ≡ pick (eqb (n - 1 - i) 0) 0 (i + 2) }
 {
-    if n - 1 <= i {
-        return 0;
-    }
-    (i + 2) as u32
+    if n - 1 <= i { 0 } else { (i + 2) as u32 }
 }
 
 fn free_slot(next: u32) -> Slot
@@ -33,14 +27,14 @@ fn free_slot(next: u32) -> Slot
     }
 }
 
+// Beside `free_waiters`, and not one function over the kind of cell: each is one line, and that one would need laws of
+// a closure.
 fn free_slots() -> [Slot; 128]
     ensures { result ≡ free_slots }
 {
     let mut l = [free_slot(0); 128];
-    let mut i: usize = 0;
-    while i < 128 {
+    for i in 0..128 {
         l[i] = free_slot(next_number(i, 128));
-        i += 1;
     }
     l
 }
@@ -51,7 +45,7 @@ fn free_waiter(next: u32) -> Waiter
     Waiter {
         thread: 0,
         address: 0,
-        next: next,
+        next,
     }
 }
 
@@ -59,10 +53,8 @@ fn free_waiters() -> [Waiter; 64]
     ensures { result ≡ free_waiters }
 {
     let mut l = [free_waiter(0); 64];
-    let mut i: usize = 0;
-    while i < 64 {
+    for i in 0..64 {
         l[i] = free_waiter(next_number(i, 64));
-        i += 1;
     }
     l
 }
@@ -70,7 +62,6 @@ fn free_waiters() -> [Waiter; 64]
 pub fn blank_thread() -> Thread
     ensures { result ≡ blank_thread }
 {
-    let none = ObjectId(0);
     Thread {
         status: ThreadStatus::Dead,
         priority: 0,
@@ -78,15 +69,15 @@ pub fn blank_thread() -> Thread
         stack_top: 0,
         tls: 0,
         processor_id: 0,
-        wait_objects: [none; WAIT_LIST],
+        wait_objects: [ObjectId(0); WAIT_LIST],
         wait_count: 0,
         wait_all: false,
-        wakeup_at: TickOption::NoTick,
+        wakeup_at: None,
         running_since: Ticks(0),
         waited: false,
-        wait_address: AddressOption::NoAddress,
-        wait_result: WaitResult::NoResult,
-        wait_syscall: WaitSyscall::NoSyscall,
+        wait_address: None,
+        wait_result: None,
+        wait_syscall: None,
         guest_id: 0,
     }
 }
@@ -94,17 +85,13 @@ pub fn blank_thread() -> Thread
 fn fresh_objects() -> ObjectStore
     ensures { result ≡ fresh_objects }
 {
-    let slots = free_slots();
-    let waiters = free_waiters();
-    let none = ObjectId(0);
-    let kept = [none; 32];
     ObjectStore {
-        slots: slots,
+        slots: free_slots(),
         free: 1,
-        waiters: waiters,
+        waiters: free_waiters(),
         free_waiter: 1,
-        thread_objects: kept,
-        process_object: none,
+        thread_objects: [ObjectId(0); 32],
+        process_object: ObjectId(0),
         full: false,
         overflow: false,
     }
@@ -117,9 +104,8 @@ fn fresh_handles() -> HandleTable
         handle: Handle(0),
         object: ObjectId(0),
     };
-    let entries = [none; 256];
     HandleTable {
-        entries: entries,
+        entries: [none; 256],
         count: 0,
         next: Handle(0x10000),
         full: false,
@@ -127,20 +113,17 @@ fn fresh_handles() -> HandleTable
     }
 }
 
+#[tactic(auto, unfolding(crate::specs::Fresh::fresh))]
 pub fn fresh_kernel(status_word: u32) -> Kernel
     ensures { result ≡ fresh status_word }
 {
-    let t = blank_thread();
-    let threads = [t; 32];
-    let objects = fresh_objects();
-    let handles = fresh_handles();
     Kernel {
-        status_word: status_word,
-        objects: objects,
-        handles: handles,
-        threads: threads,
+        status_word,
+        objects: fresh_objects(),
+        handles: fresh_handles(),
+        threads: [blank_thread(); 32],
         thread_count: 0,
-        current_thread: ThreadOption::NoThread,
+        current_thread: None,
         next_tls_slot: 0,
         next_guest_id: 0,
         all_blocked: false,

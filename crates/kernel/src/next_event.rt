@@ -1,98 +1,50 @@
 // The earliest tick that a blocked thread or a timer wants the scheduler at.
-ghost use Rattle.std.specs.Prelude.{◌≡◌, ◌-◌, ◌<◌, ◌≤◌, length};
+ghost use Rattle.std.specs.Prelude.{◌≡◌, ◌≤◌, length};
 ghost use Rattle.laws.specs.Tally.{tally};
-ghost use Rattle.types.specs.Thread.{wait_list, is_blocked};
+ghost use Rattle.types.specs.Thread.{wait_list};
 ghost use Rattle.kernel.specs.NextEvent.{earlier, wake_after, due_of};
-ghost use Rattle.kernel.specs.Marks.{list_if, option};
+ghost use Rattle.kernel.specs.Marks.{list_if};
 
 use types::object::KObject;
-use types::thread::{Thread, TickOption};
+use types::thread::Thread;
 use units::Ticks;
 
-// The earliest tick so far, if found is not 0. Words and no enum, since an enum that goes round a loop is copied part by part at each turn.
-#[derive(Clone, Copy)]
-pub struct Earliest {
-    pub found: u64,
-    pub tick: Ticks,
+// The best so far, or the other tick if there is one and it is earlier.
+pub fn earlier(best: Option<Ticks>, at: Option<Ticks>) -> Option<Ticks>
+    ensures { result ≡ earlier best at }
+{
+    match (best, at) {
+        (_, None) => best,
+        (None, Some(_)) => at,
+        (Some(b), Some(t)) => { if t.0 < b.0 { at } else { best } }
+    }
 }
 
-// Told by `option`, as the two after it: the tick of a search that found none is never read, so it is left open.
-fn earlier_of(best: Earliest, at: Ticks) -> Earliest
-    ensures { option result ≡ earlier (option best) (TickOption.SomeTick at) }
+pub fn wake_after(best: Option<Ticks>, t: Thread) -> Option<Ticks>
+    ensures { result ≡ wake_after best t }
 {
-    let n = at.0;
-    let first = best.tick;
-    let m = first.0;
-    if best.found == 0 {
-        return Earliest { found: 1, tick: at };
-    }
-    if n < m {
-        return Earliest { found: 1, tick: at };
+    if types::thread::is_blocked(t.status) {
+        return earlier(best, t.wakeup_at);
     }
     best
-}
-
-pub fn earlier_option(best: Earliest, at: TickOption) -> Earliest
-    ensures { option result ≡ earlier (option best) at }
-{
-    match at {
-        TickOption::NoTick => best,
-        TickOption::SomeTick(t) => earlier_of(best, t),
-    }
-}
-
-pub fn wake_after(best: Earliest, t: Thread) -> Earliest
-    ensures { option result ≡ wake_after (option best) t }
-{
-    let s = t.status;
-    let at = t.wakeup_at;
-    if types::thread::is_blocked(s) {
-        return earlier_option(best, at);
-    }
-    best
-}
-
-fn blocked(t: Thread) -> bool
-    ensures { result ≡ is_blocked t.status }
-{
-    let s = t.status;
-    types::thread::is_blocked(s)
 }
 
 // One more for each object that the thread waits on, if it is blocked.
+#[tactic(auto, unfolding(laws::specs::Tally::tally))]
 pub fn mark_list(m: &mut [u32; 129], t: Thread)
     ensures m_after { m.new ≡ tally 129 m.old (list_if t) }
     ensures t_len_bound { length (list_if t) ≤ wait_list }
 {
-    if !blocked(t) {
-        return;
+    if types::thread::is_blocked(t.status) {
+        tally::tally_list(m, t.wait_objects);
     }
-    let l = t.wait_objects;
-    tally::tally_list(m, l);
 }
 
-pub fn due_of(o: KObject) -> TickOption
+pub fn due_of(o: KObject) -> Option<Ticks>
     ensures { result ≡ due_of o }
 {
     match o {
-        KObject::Free(_n) => TickOption::NoTick,
-        KObject::Thread(_t) => TickOption::NoTick,
-        KObject::Event(_e) => TickOption::NoTick,
-        KObject::Mutex(_m) => TickOption::NoTick,
-        KObject::Semaphore(_s) => TickOption::NoTick,
         KObject::Timer(t) => t.fire_at,
-        KObject::AddressArbiter(_a) => TickOption::NoTick,
-        KObject::Process => TickOption::NoTick,
-        KObject::ResourceLimit => TickOption::NoTick,
+        _ => None,
     }
-}
-
-pub fn option_of(e: Earliest) -> TickOption
-    ensures { result ≡ option e }
-{
-    if e.found == 0 {
-        return TickOption::NoTick;
-    }
-    let t = e.tick;
-    TickOption::SomeTick(t)
 }

@@ -1,5 +1,5 @@
 -- The exports for guest code: a guest call, and collect.
-use Rattle.std.specs.Prelude.{Bool, List, ◌++◌, ℕ, ◌+◌, ◌-◌, ◌%◌, eqb, leb, length}
+use Rattle.std.specs.Prelude.{Bool, List, ◌++◌, ℕ, ◌+◌, ◌-◌, ◌%◌, eqb, leb, length, Option, Some, None}
 use Rattle.laws.specs.Logic.{pick, ◌and◌}
 use Rattle.codec.specs.Bytes.{num, bytes, le, over}
 use Rattle.codec.specs.Layout.{dec_all}
@@ -7,8 +7,6 @@ use Rattle.types.specs.declared.kernel.Kernel.{Kernel}
 use Rattle.types.specs.Thread.{result_number, result_index, syscall_number}
 use Rattle.block.specs.Block.{enc_block}
 use Rattle.svc.specs.declared.Registers.{Registers}
-use Rattle.svc.specs.declared.WordOption.{WordOption}
-use Rattle.svc.specs.declared.WordOption.TheVariants.{NoWord, SomeWord}
 use Rattle.svc.specs.declared.Served.{Served}
 use Rattle.svc.specs.Table.{row_of, written}
 use Rattle.svc.specs.Dispatch.{words_read, given, runs?, refusal, call}
@@ -41,9 +39,9 @@ processor_after number p s =
     over (over p 0 (bytes 4 (written (row_of number).writes 1 s.r0 (le 4 p 0)))) 4 (bytes 4 (written (row_of number).writes 2 s.r1 (le 4 p 4)))
 
 -- the word that 0x22 counts down
-abbrev pub window_after : ℕ → List ℕ → Registers → WordOption → List ℕ
-window_after base w r NoWord = w
-window_after base w r (SomeWord v) = over w (r.r1 - base) (bytes 4 v)
+abbrev pub window_after : ℕ → List ℕ → Registers → Option ℕ → List ℕ
+window_after base w r None = w
+window_after base w r (Some v) = over w (r.r1 - base) (bytes 4 v)
 
 -- a thread that 0x08 makes gets its row of the bank
 abbrev pub bank_after : ℕ → List ℕ → Kernel → Registers → List ℕ

@@ -1,13 +1,11 @@
 -- The exported operations: question 1, question 2, their own questions, the work, questions 7 and 8.
-use Rattle.std.specs.Prelude.{Bool, not, List, ◌++◌, ℕ, ◌*◌, ◌/◌, ◌%◌, eqb, ltb, length, replicate, take, drop}
+use Rattle.units.specs.declared.Ticks.{Ticks}
+use Rattle.std.specs.Prelude.{Bool, not, List, ◌++◌, ℕ, ◌*◌, ◌/◌, ◌%◌, eqb, ltb, length, replicate, take, drop, Option, Some, None}
 use Rattle.laws.specs.Logic.{pick, ◌and◌, ◌or◌}
 use Rattle.codec.specs.Bytes.{num, bytes, over}
 use Rattle.codec.specs.Layout.{enc_all, dec_all}
-use Rattle.types.specs.declared.thread.ThreadOption.{ThreadOption}
-use Rattle.types.specs.declared.thread.ThreadOption.TheVariants.{NoThread, SomeThread}
-use Rattle.types.specs.declared.thread.TickOption.{TickOption}
 use Rattle.types.specs.declared.kernel.Kernel.{Kernel}
-use Rattle.types.specs.Thread.{is_dead, tick_flag, tick_value}
+use Rattle.types.specs.Thread.{is_dead, option_flag, option_value, tick_value}
 use Rattle.block.specs.Table.{enc_id}
 use Rattle.block.specs.Context.{enc_context}
 use Rattle.block.specs.Block.{enc_block, dec_block}
@@ -17,11 +15,9 @@ use Rattle.kernel.specs.Fresh.{fresh}
 use Rattle.kernel.specs.NextEvent as kernel
 use Rattle.thread.specs.Thread.{new_context}
 use Rattle.thread.specs.Threads as thread
-use Rattle.pass.specs.declared.IndexOption.{IndexOption}
-use Rattle.pass.specs.declared.IndexOption.TheVariants.{NoIndex, SomeIndex}
 use Rattle.pass.specs.declared.Satisfied.{Satisfied}
 use Rattle.pass.specs.declared.Release.{Release}
-use Rattle.pass.specs.declared.Release.TheVariants.{NotQuiet, CountsDown, Frees}
+use Rattle.pass.specs.declared.Release.TheVariants.{CountsDown, Frees}
 use Rattle.pass.specs.declared.Passed.{Passed}
 use Rattle.pass.specs.Asks as asks
 use Rattle.pass.specs.Schedule as pass
@@ -48,8 +44,8 @@ fresh_start w l =
     (back 1 l)
 
 -- 1 and the tick, or 0 and 0
-unfoldable pub tick_bytes : TickOption → List ℕ
-tick_bytes at = (bytes 4 (tick_flag at) ++ bytes 4 0) ++ bytes 8 (tick_value at)
+unfoldable pub tick_bytes : Option Ticks → List ℕ
+tick_bytes at = (bytes 4 (option_flag at) ++ bytes 4 0) ++ bytes 8 (tick_value at)
 
 unfoldable pub next_event : Lent → Back
 next_event l = inspect (eqb (length l.block) 16384 and eqb (length l.answer) 16) (λ k. tick_bytes (kernel.next_event k)) l
@@ -93,14 +89,14 @@ create_thread entry stack arg priority processor l =
 
 -- ---- a pass
 -- a context into a thread's row of the bank; a number past the rows has none
-abbrev pub save_row : List ℕ → ThreadOption → List ℕ → List ℕ
-save_row bank NoThread context = bank
-save_row bank (SomeThread t) context = pick (ltb t 32) (over bank (t * 208) context) bank
+abbrev pub save_row : List ℕ → Option ℕ → List ℕ → List ℕ
+save_row bank None context = bank
+save_row bank (Some t) context = pick (ltb t 32) (over bank (t * 208) context) bank
 
 -- the context in a thread's row, or what is there if there is none
-abbrev pub restore_row : List ℕ → ThreadOption → List ℕ → List ℕ
-restore_row context NoThread bank = context
-restore_row context (SomeThread t) bank = pick (ltb t 32) (take 208 (drop (t * 208) bank)) context
+abbrev pub restore_row : List ℕ → Option ℕ → List ℕ → List ℕ
+restore_row context None bank = context
+restore_row context (Some t) bank = pick (ltb t 32) (take 208 (drop (t * 208) bank)) context
 
 -- the processor goes to the row of the thread that leaves the core, and comes from that of the one that gets it
 abbrev pub pass_written : Lent → Passed → Lent
@@ -119,18 +115,9 @@ schedule tick l =
 abbrev pub words : List ℕ → List ℕ
 words s = dec_all num 4 (length s / 4) s 0
 
--- 1 and the index, or 0 and 0
-abbrev pub index_flag : IndexOption → ℕ
-index_flag NoIndex = 0
-index_flag (SomeIndex i) = 1
-
-abbrev pub index_value : IndexOption → ℕ
-index_value NoIndex = 0
-index_value (SomeIndex i) = i
-
 -- the flag, the index, and the eight object numbers
 abbrev pub satisfied_bytes : Satisfied → List ℕ
-satisfied_bytes r = (bytes 4 (index_flag r.index) ++ bytes 4 (index_value r.index)) ++ enc_all enc_id r.objects
+satisfied_bytes r = (bytes 4 (option_flag r.index) ++ bytes 4 (option_value r.index)) ++ enc_all enc_id r.objects
 
 -- a list of handles is whole words; a wait for all is any number but 0
 unfoldable pub satisfied_now : List ℕ → ℕ → ℕ → Lent → Back
@@ -140,23 +127,23 @@ satisfied_now handles all tick l =
 
 -- ---- what letting go of a mutex would do
 -- found or not
-abbrev pub release_flag : Release → ℕ
-release_flag NotQuiet = 0
-release_flag (CountsDown o) = 1
-release_flag (Frees o) = 1
+abbrev pub release_flag : Option Release → ℕ
+release_flag None = 0
+release_flag (Some (CountsDown o)) = 1
+release_flag (Some (Frees o)) = 1
 
-abbrev pub release_object : Release → ℕ
-release_object NotQuiet = 0
-release_object (CountsDown o) = o.0
-release_object (Frees o) = o.0
+abbrev pub release_object : Option Release → ℕ
+release_object None = 0
+release_object (Some (CountsDown o)) = o.0
+release_object (Some (Frees o)) = o.0
 
 -- whether the mutex becomes free
-abbrev pub release_frees : Release → ℕ
-release_frees NotQuiet = 0
-release_frees (CountsDown o) = 0
-release_frees (Frees o) = 1
+abbrev pub release_frees : Option Release → ℕ
+release_frees None = 0
+release_frees (Some (CountsDown o)) = 0
+release_frees (Some (Frees o)) = 1
 
-abbrev pub release_bytes : Release → List ℕ
+abbrev pub release_bytes : Option Release → List ℕ
 release_bytes r = (bytes 4 (release_flag r) ++ bytes 4 (release_object r)) ++ bytes 4 (release_frees r)
 
 unfoldable pub quiet_release : ℕ → ℕ → Lent → Back

@@ -1,6 +1,6 @@
 -- The rule of the call table, over the whole table: a call reads no register outside its row's read mask, and no register outside
 -- its written mask changes. Assumes nothing.
-use Rattle.std.specs.Prelude.{◌≡◌, Bool, true, false, List, ◌++◌, ℕ, ◌+◌, ◌≤◌, eqb, length, take, drop}
+use Rattle.std.specs.Prelude.{◌≡◌, Bool, true, false, List, ◌++◌, ℕ, ◌+◌, ◌≤◌, eqb, length, take, drop, Option, Some, None}
 use Rattle.std.proofs.Math.Path.{refl, subst}
 use Rattle.std.proofs.Common.{ap, ◌∙◌, arith, length-drop, drop-drop, length-take-le}
 use Rattle.laws.specs.Logic.{pick, ◌and◌}
@@ -9,8 +9,6 @@ use Rattle.codec.proofs.Laws.{bytes-num}
 use Rattle.codec.proofs.Back.{Bytes, bytes_part}
 use Rattle.types.specs.declared.kernel.Kernel.{Kernel}
 use Rattle.svc.specs.declared.Registers.{Registers}
-use Rattle.svc.specs.declared.WordOption.{WordOption}
-use Rattle.svc.specs.declared.WordOption.TheVariants.{NoWord, SomeWord}
 use Rattle.svc.specs.declared.Served.{Served}
 use Rattle.svc.specs.Table.{row_of, bit, written_as, written}
 use Rattle.block.specs.Block.{enc_block, dec_block}
@@ -84,9 +82,9 @@ module _ (base number tick : ℕ) (b k p q w a : List ℕ) where
       (by_given (eqb (length b) 16384 and (eqb (length k) 6656 and (eqb (length p) 208 and window_ok base w))) (given number (registers p))))
 
 -- ---- what a call writes
-kept : (t : Bool) (w : WordOption) (old : ℕ) → t ≡ false → written_as t w old ≡ old
-kept t NoWord old e = refl
-kept t (SomeWord v) old e = rw e
+kept : (t : Bool) (w : Option ℕ) (old : ℕ) → t ≡ false → written_as t w old ≡ old
+kept t None old e = refl
+kept t (Some v) old e = rw e
 
 -- the two words that may change, then the rest as before
 after_is : (number : ℕ) (p : List ℕ) (s : Served)

@@ -2,11 +2,11 @@
 ghost use Rattle.std.specs.Prelude.{◌≡◌, ltb, length};
 ghost use Rattle.sound.specs.Question.{sound?};
 
+use block::Block;
 use units::Handle;
 
 // Question 2: the block is the encoding of what it decodes to, and that is a sound state.
-pub fn block_ok(b: &[u8]) -> bool
-    requires { length b.now ≡ 16384 }
+pub fn block_ok(b: &Block) -> bool
     ensures { result ≡ sound? b.now }
 {
     if !canonical::canonical(b) {

@@ -1,7 +1,7 @@
 -- Cells numbered from 1, by the code's cases, and one turn of each loop. Assumes nothing.
 use mathlib.Core.Path.{◌≡◌, refl, ap, sym, ◌∙◌}
 use mathlib.Core.Bool.{Bool, true, false, not}
-use mathlib.Core.Logic.{◌≢◌}
+use mathlib.Core.Logic.{◌≢◌, ◌⊎◌, inl, inr}
 use mathlib.Core.List.{List, [], ◌∷◌, ◌++◌, map}
 use Prim.Native.Nat.{ℕ, zero, suc, ◌+◌, ◌-◌, ◌≤◌, ◌<◌}
 use native.Mathlib.Numerals.{add-one}
@@ -12,7 +12,7 @@ use lib.Seq.{drop-cons, set_out, set-get_or, get_or-take}
 use borrow.Author.Tests.{eq-eqb, ne_eqb}
 use Rattle.laws.specs.Logic.{pick, ◌and◌, ◌or◌, and-false}
 use Rattle.laws.specs.Count.{at}
-use Rattle.laws.specs.Walk.{walk, walk-nil, walk-go}
+use Rattle.laws.specs.Walk.{walk, walk-nil, walk-out, walk-go}
 use Rattle.units.specs.declared.ObjectId.{ObjectId}
 use Rattle.types.specs.declared.object.Slot.{Slot}
 use Rattle.types.specs.declared.object.KObject.{KObject}
@@ -21,7 +21,7 @@ use Rattle.types.specs.declared.object.Waiter.{Waiter}
 use Rattle.types.specs.declared.object.HandleEntry.{HandleEntry}
 use Rattle.types.specs.declared.object.ObjectStore.{ObjectStore}
 use Rattle.types.specs.Object.{head_of}
-use Rattle.sound.specs.View.{ids, no_slot, slot_at, slot_at-pos, slot_at-out, object_at, waiter_nexts, waiter_threads}
+use Rattle.sound.specs.View.{ids, no_slot, slot_at, slot_at-pos, slot_at-out, object_at, waiter_nexts, waiter_threads, waiter_addresses}
 use Rattle.sound.specs.Records.{has?}
 use Rattle.tally.specs.Place.{is_slot, slot-some, slot-past, slot_index, index-slot}
 use Rattle.object.specs.declared.waiters.Links.{Links}
@@ -120,33 +120,27 @@ pub kept_in_lem : (l : List ObjectId) (t : ℕ) → (get_or l t no_id).0 ≡ get
 kept_in_lem l t = sym (get_or-map (λ (o : ObjectId). o.0) l t no_id)
 
 -- ---- records
-pub waiter_at-none : (l : List Waiter) (n : ℕ) → n ≡ 0 → no_waiter ≡ waiter_at l n
+pub waiter_at-out : (l : List Waiter) (n : ℕ) → length l ≡ 64 → (n ≡ 0) ⊎ ((n ≢ 0) × (64 < n)) → no_waiter ≡ waiter_at l n
 unfolding waiter_at
-waiter_at-none l n e = rw e
+waiter_at-out l zero e w = refl
+waiter_at-out l (suc n) e (inl z) = absurd (omega arith)
+waiter_at-out l (suc n) e (inr w) = sym (get_or-eq_default l no_waiter (omega (arith, w.1)))
 
 pub waiter_at-pos : (l : List Waiter) (n : ℕ) → n ≢ 0 → get_or l (n - 1) no_waiter ≡ waiter_at l n
 unfolding waiter_at
 waiter_at-pos l zero p = absurd (p refl)
 waiter_at-pos l (suc n) p = let e : suc n - 1 ≡ n = omega arith in rw e
 
-pub waiter_at-far : (l : List Waiter) (n : ℕ) → length l < n → no_waiter ≡ waiter_at l n
-unfolding waiter_at
-waiter_at-far l zero h = refl
-waiter_at-far l (suc n) h = sym (get_or-eq_default l no_waiter (omega arith))
-
-pub waiter_put-none : (l : List Waiter) (n : ℕ) (v : Waiter) → n ≡ 0 → l ≡ waiter_put l n v
+pub waiter_put-out : (l : List Waiter) (n : ℕ) (v : Waiter) → length l ≡ 64 → (n ≡ 0) ⊎ ((n ≢ 0) × (64 < n)) → l ≡ waiter_put l n v
 unfolding waiter_put
-waiter_put-none l n v e = rw e
+waiter_put-out l zero v e w = refl
+waiter_put-out l (suc n) v e (inl z) = absurd (omega arith)
+waiter_put-out l (suc n) v e (inr w) = sym (set_out l n v (omega (arith, w.1)))
 
 pub waiter_put-pos : (l : List Waiter) (n : ℕ) (v : Waiter) → n ≢ 0 → set l (n - 1) v ≡ waiter_put l n v
 unfolding waiter_put
 waiter_put-pos l zero v p = absurd (p refl)
 waiter_put-pos l (suc n) v p = let e : suc n - 1 ≡ n = omega arith in rw e
-
-pub waiter_put-far : (l : List Waiter) (n : ℕ) (v : Waiter) → length l < n → l ≡ waiter_put l n v
-unfolding waiter_put
-waiter_put-far l zero v h = refl
-waiter_put-far l (suc n) v h = sym (set_out l n v (omega arith))
 
 pub at-waiters : (f : Waiter → ℕ) (l : List Waiter) (r : ℕ) → f no_waiter ≡ 0 → at (map f l) r ≡ f (waiter_at l r)
 unfolding waiter_at at
@@ -159,39 +153,37 @@ at_next l r = at-waiters (λ (w : Waiter). w.next) l r refl
 pub at-thread : (l : List Waiter) (r : ℕ) → at (waiter_threads l) r ≡ (waiter_at l r).thread
 at-thread l r = at-waiters (λ (w : Waiter). w.thread) l r refl
 
+at-address : (l : List Waiter) (r : ℕ) → at (waiter_addresses l) r ≡ (waiter_at l r).address
+at-address l r = at-waiters (λ (w : Waiter). w.address) l r refl
+
 -- ---- the walk of a chain, by the code's cases
-pub unlink-go : (ws : List Waiter) (left h : ℕ) → left ≢ 0 → h ≢ 0 → (keep : ℕ → Bool) (free : ℕ)
-    → link (keep h) h (unlink keep ws free (walk (waiter_nexts ws) (left - 1) (waiter_at ws h).next)) ≡ unlink keep ws free (walk (waiter_nexts ws) left h)
-unfolding unlink
-unlink-go ws left h p q keep free = rw (walk-go (waiter_nexts ws) left h p q, at_next ws h)
+pub walk-over : (nx : List ℕ) (left h : ℕ) → (h ≡ 0) ⊎ ((h ≢ 0) × (left ≡ 0)) → walk nx left h ≡ []
+walk-over nx left h (inl e) = walk-nil nx left h e
+walk-over nx left h (inr w) = walk-out nx left h w.1
 
-module _ (nx : List ℕ) (left h : ℕ) (p : left ≢ 0) (q : h ≢ 0) where
-  pub last-go : (x : ℕ) → last_of (h ∷ walk nx (left - 1) (at nx h)) ≡ last_of (x ∷ walk nx left h)
+module _ (ws : List Waiter) (left h : ℕ) (p : left ≢ 0) (q : h ≢ 0) where
+  pub walk_record : walk (waiter_nexts ws) left h ≡ h ∷ walk (waiter_nexts ws) (left - 1) (waiter_at ws h).next
+  walk_record = walk-go (waiter_nexts ws) left h p q ∙ rw (at_next ws h)
+
+  pub unlink-go : (keep : ℕ → Bool) (free : ℕ)
+      → link (keep h) h (unlink keep ws free (walk (waiter_nexts ws) (left - 1) (waiter_at ws h).next)) ≡ unlink keep ws free (walk (waiter_nexts ws) left h)
+  unfolding unlink
+  unlink-go keep free = rw walk_record
+
+  pub last-go : (x : ℕ) → last_of (h ∷ walk (waiter_nexts ws) (left - 1) (waiter_at ws h).next) ≡ last_of (x ∷ walk (waiter_nexts ws) left h)
   unfolding last_of
-  last-go x = rw (walk-go nx left h p q)
+  last-go x = rw walk_record
 
-  module _ (ts ad : List ℕ) (t a : ℕ) where
-    pub has_here : at ts h ≡ t → at ad h ≡ a → true ≡ has? ts ad t a (walk nx left h)
+  module _ (t a : ℕ) where
+    pub has-here : (waiter_at ws h).thread ≡ t → (waiter_at ws h).address ≡ a → true ≡ has? (waiter_threads ws) (waiter_addresses ws) t a (walk (waiter_nexts ws) left h)
     unfolding has? ◌and◌ ◌or◌
-    has_here e f = rw (walk-go nx left h p q, eq-eqb _ _ e, eq-eqb _ _ f)
+    has-here e f = rw (walk_record, at-thread ws h, at-address ws h, eq-eqb _ _ e, eq-eqb _ _ f)
 
-    pub has-thread : at ts h ≢ t → has? ts ad t a (walk nx (left - 1) (at nx h)) ≡ has? ts ad t a (walk nx left h)
+    pub has-next : (((waiter_at ws h).thread ≡ t) × ((waiter_at ws h).address ≢ a)) ⊎ ((waiter_at ws h).thread ≢ t)
+        → has? (waiter_threads ws) (waiter_addresses ws) t a (walk (waiter_nexts ws) (left - 1) (waiter_at ws h).next) ≡ has? (waiter_threads ws) (waiter_addresses ws) t a (walk (waiter_nexts ws) left h)
     unfolding has? ◌and◌ ◌or◌
-    has-thread e = rw (walk-go nx left h p q, ne_eqb _ _ e)
-
-    pub has_address : at ad h ≢ a → has? ts ad t a (walk nx (left - 1) (at nx h)) ≡ has? ts ad t a (walk nx left h)
-    unfolding has? ◌or◌
-    has_address e = rw (walk-go nx left h p q, ne_eqb _ _ e, and-false (eqb (at ts h) t))
-
--- a chain that starts nowhere
-module _ (nx : List ℕ) (left h : ℕ) (e : h ≡ 0) where
-  pub last_none : 0 ≡ last_of (walk nx left h)
-  unfolding last_of
-  last_none = rw (walk-nil nx left h e)
-
-  pub has-none : (ts ad : List ℕ) (t a : ℕ) → has? ts ad t a (walk nx left h) ≡ false
-  unfolding has?
-  has-none ts ad t a = rw (walk-nil nx left h e)
+    has-next (inl w) = rw (walk_record, at-thread ws h, at-address ws h, ne_eqb _ _ w.1, and-false (eqb (waiter_at ws h).thread t))
+    has-next (inr e) = rw (walk_record, at-thread ws h, ne_eqb _ _ e)
 
 -- nothing in front of a chain
 pub last-zero : (xs : List ℕ) → last_of (0 ∷ xs) ≡ last_of xs

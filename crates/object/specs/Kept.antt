@@ -1,8 +1,6 @@
 -- `thread_object`, `process_object` and `resolve` of mod.rs: the objects that the kernel keeps for threads and for the process.
-use Rattle.std.specs.Prelude.{ℕ, eqb, set}
+use Rattle.std.specs.Prelude.{ℕ, eqb, set, Option, Some, None}
 use Rattle.laws.specs.Logic.{pick}
-use Rattle.types.specs.declared.thread.ThreadOption.{ThreadOption}
-use Rattle.types.specs.declared.thread.ThreadOption.TheVariants.{NoThread, SomeThread}
 use Rattle.types.specs.declared.object.KObject.TheVariants.{Thread, Process}
 use Rattle.types.specs.declared.object.HandleTable.{HandleTable}
 use Rattle.types.specs.declared.object.ObjectStore.{ObjectStore}
@@ -25,12 +23,12 @@ process_object s =
     (with_process (insert s Process) (record { 0 = s.free }))
     s
 
-abbrev pub of_current : ObjectStore → ThreadOption → Resolved
-of_current s NoThread = record { object = record { 0 = 0 }; store = s }
-of_current s (SomeThread t) = record { object = record { 0 = kept_at (thread_object s t) t }; store = thread_object s t }
+abbrev pub of_current : ObjectStore → Option ℕ → Resolved
+of_current s None = record { object = record { 0 = 0 }; store = s }
+of_current s (Some t) = record { object = record { 0 = kept_at (thread_object s t) t }; store = thread_object s t }
 
 -- 0xFFFF8000 is the current thread, 0xFFFF8001 the process
-unfoldable pub resolve : ThreadOption → HandleTable → ObjectStore → ℕ → Resolved
+unfoldable pub resolve : Option ℕ → HandleTable → ObjectStore → ℕ → Resolved
 resolve current t s h =
     pick (eqb h 0xFFFF8000) (of_current s current)
     (pick (eqb h 0xFFFF8001) (record { object = (process_object s).process_object; store = process_object s })

@@ -1,8 +1,7 @@
 // The handle table (HandleTable of object.rs).
-ghost use Rattle.std.specs.Prelude.{◌≡◌, ◌+◌, ◌-◌, ◌<◌, ltb};
-ghost use Rattle.laws.specs.Logic.{pick, ◌or◌};
+ghost use Rattle.std.specs.Prelude.{◌≡◌, ◌+◌, ltb};
+ghost use Rattle.laws.specs.Logic.{pick};
 
-use crate::store;
 use types::object::{HandleTable, ObjectStore};
 
 // The table and the store after an operation on both.
@@ -12,29 +11,8 @@ pub struct Both {
     pub store: ObjectStore,
 }
 
-pub fn either(a: bool, b: bool) -> bool
-    ensures { result ≡ (a or b) }
-{
-    if a {
-        return true;
-    }
-    b
-}
-
 pub fn more_below(x: u32, n: u32) -> u32
     ensures { result ≡ pick (ltb x n) (x + 1) x }
 {
-    if x < n {
-        return x + 1;
-    }
-    x
-}
-
-pub fn less(x: u32) -> u32
-    ensures { result ≡ x - 1 }
-{
-    if x == 0 {
-        return 0;
-    }
-    x - 1
+    if x < n { x + 1 } else { x }
 }

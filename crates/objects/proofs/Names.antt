@@ -1,4 +1,5 @@
 -- Whether a handle names an object once it is open. Assumes nothing.
+use Rattle.std.specs.Prelude.{Option, Some}
 use mathlib.Core.Path.{◌≡◌, refl, sym, ap, ◌∙◌}
 use mathlib.Core.Bool.{Bool, true, false, not}
 use mathlib.Core.List.{List}
@@ -9,10 +10,8 @@ use lib.Dec.{eqb}
 use borrow.Author.Tests.{eq-eqb, ne_eqb, lt-ltb, eqb-true, eqb-false}
 use Rattle.laws.specs.Logic.{◌and◌, false-true}
 use Rattle.types.specs.declared.object.ObjectStore.{ObjectStore}
-use Rattle.types.specs.declared.thread.ThreadOption.{ThreadOption}
-use Rattle.types.specs.declared.thread.ThreadOption.TheVariants.{SomeThread}
 use Rattle.types.specs.declared.kernel.Kernel.{Kernel}
-use Rattle.types.specs.Thread.{thread_flag, thread_value}
+use Rattle.types.specs.Thread.{option_flag, option_value}
 use Rattle.block.specs.Block.{dec_block}
 use Rattle.sound.specs.Objects.{kept_at}
 use Rattle.sound.specs.Question.{sound?}
@@ -40,10 +39,10 @@ module _ (b : List ℕ) (s : sound? b ≡ true) (h : ℕ) where
     unfolding resolve
     current-is = rw (eq-eqb h 0xFFFF8000 e)
 
-    room-is : (t : ℕ) → k.current_thread ≡ SomeThread t → no_room k h ≡ eqb k.objects.free 0 and eqb (kept_at k.objects t) 0
-    room-is t q = rw (eq-eqb h 0xFFFF8000 e) (ap (λ (c : ThreadOption). eqb k.objects.free 0 and makes_current k.objects c) q)
+    room-is : (t : ℕ) → k.current_thread ≡ Some t → no_room k h ≡ eqb k.objects.free 0 and eqb (kept_at k.objects t) 0
+    room-is t q = rw (eq-eqb h 0xFFFF8000 e) (ap (λ (c : Option ℕ). eqb k.objects.free 0 and makes_current k.objects c) q)
 
-    thread-some : (t : ℕ) → k.current_thread ≡ SomeThread t → no_room k h ≡ false → kept_at (thread_object k.objects t) t ≢ 0
+    thread-some : (t : ℕ) → k.current_thread ≡ Some t → no_room k h ≡ false → kept_at (thread_object k.objects t) t ≢ 0
     thread-some t q r z = elim (ℕ_discrete (kept_at k.objects t) 0) [
       | yes w ↦
           let p : k.objects.free ≡ 0 = sym (ap (λ (y : ObjectStore). kept_at y t) (made-thread b s t w) ∙ kept_put_lem k.objects.thread_objects t k.objects.free (holds b s).sizes.ni ∙ rw (lt-ltb t 32 (current-place b s t q))) ∙ z in
@@ -51,21 +50,21 @@ module _ (b : List ℕ) (s : sound? b ≡ true) (h : ℕ) where
       | no w ↦ w (ap (λ (y : ObjectStore). kept_at y t) (sym (thread-kept b s t w)) ∙ z)
     ]
 
-    names-nobody : thread_flag k.current_thread ≡ 0 → Names k h false
+    names-nobody : option_flag k.current_thread ≡ 0 → Names k h false
     names-nobody z = record {
       none = λ _. current-is ∙ ap (of_current k.objects) (no-thread k.current_thread z);
       some = λ w. false-true w;
     }
 
-    names-current : thread_flag k.current_thread ≢ 0 → Names k h true
+    names-current : option_flag k.current_thread ≢ 0 → Names k h true
     names-current z = record {
       none = λ w. false-true (sym w);
-      some = λ _ r w. let u = some-thread k.current_thread z in thread-some (thread_value k.current_thread) u r (sym (ap (λ (y : Resolved). y.object.0) (current-is ∙ ap (of_current k.objects) u)) ∙ w);
+      some = λ _ r w. let u = some-thread k.current_thread z in thread-some (option_value k.current_thread) u r (sym (ap (λ (y : Resolved). y.object.0) (current-is ∙ ap (of_current k.objects) u)) ∙ w);
     }
 
-    names-flag : (t : Bool) → eqb (thread_flag k.current_thread) 0 ≡ t → Names k h (not t)
-    names-flag true z = names-nobody (eqb-true (thread_flag k.current_thread) 0 z)
-    names-flag false z = names-current (eqb-false (thread_flag k.current_thread) 0 z)
+    names-flag : (t : Bool) → eqb (option_flag k.current_thread) 0 ≡ t → Names k h (not t)
+    names-flag true z = names-nobody (eqb-true (option_flag k.current_thread) 0 z)
+    names-flag false z = names-current (eqb-false (option_flag k.current_thread) 0 z)
 
   module _ (e : h ≢ 0xFFFF8000) where
     -- ---- the process's
@@ -103,7 +102,7 @@ module _ (b : List ℕ) (s : sound? b ≡ true) (h : ℕ) where
 
   pub names-is : Names k h (named k.current_thread k.handles h)
   names-is = elim (ℕ_discrete h 0xFFFF8000) [
-    | yes e ↦ rw (eq-eqb h 0xFFFF8000 e) (names-flag e (eqb (thread_flag k.current_thread) 0) refl)
+    | yes e ↦ rw (eq-eqb h 0xFFFF8000 e) (names-flag e (eqb (option_flag k.current_thread) 0) refl)
     | no e ↦ elim (ℕ_discrete h 0xFFFF8001) [
       | yes f ↦ rw (ne_eqb h 0xFFFF8000 e, eq-eqb h 0xFFFF8001 f) (names-process e f)
       | no f ↦ rw (ne_eqb h 0xFFFF8000 e, ne_eqb h 0xFFFF8001 f) (names-plain e f (eqb (object_of k.handles h) 0) refl)

@@ -1,4 +1,5 @@
 -- Opening a handle: nothing made, an object made. Assumes nothing.
+use Rattle.std.specs.Prelude.{Some, Result, Ok, Err}
 use mathlib.Core.Path.{◌≡◌, refl, sym, ap, ◌∙◌}
 use mathlib.Core.Bool.{true}
 use mathlib.Core.List.{List}
@@ -14,7 +15,6 @@ use Rattle.units.specs.declared.ObjectId.{ObjectId}
 use Rattle.types.specs.declared.object.KObject.{KObject}
 use Rattle.types.specs.declared.object.KObject.TheVariants.{Thread, Process}
 use Rattle.types.specs.declared.object.ObjectStore.{ObjectStore}
-use Rattle.types.specs.declared.thread.ThreadOption.TheVariants.{SomeThread}
 use Rattle.types.specs.declared.kernel.Kernel.{Kernel}
 use Rattle.block.specs.Block.{dec_block}
 use Rattle.sound.specs.View.{ids}
@@ -26,11 +26,12 @@ use Rattle.object.specs.Store.{insert}
 use Rattle.object.specs.Kept.{thread_object, process_object, of_current}
 use Rattle.svc.specs.Call.{with_objects}
 use Rattle.lent.specs.Operations.{finding, out_of_handles?}
-use Rattle.outcome.specs.Findings.{found_of, parts-finding}
+use Rattle.outcome.specs.Findings.{found_of, found-room, found-finding, parts-finding}
 use Rattle.rows.specs.Rows.{kept_put}
 use Rattle.rows.specs.Holds.{Holds, holds, put-kept}
-use Rattle.objects.specs.declared.open.Opened.{Opened}
-use Rattle.objects.specs.Open.{Opens, of_process, found_making}
+use Rattle.types.specs.declared.refusal.Refusal.{Refusal}
+use Rattle.types.specs.Refusal.{refusal-some, found_in, unless_found}
+use Rattle.objects.specs.Open.{Opens, object_in, of_process, found_making}
 
 -- an object kept for the thread t
 pub kept_put_lem : (l : List ObjectId) (t o : ℕ) → length l ≡ 32 → get_or (ids (set l t (record { 0 = o }))) t 0 ≡ pick (ltb t 32) o 0
@@ -46,13 +47,14 @@ module _ (b : List ℕ) (s : sound? b ≡ true) where
   k = dec_block b
 
   -- ---- nothing is made
-  pub opens_same : (x : Resolved) (o : Opened) → x.store ≡ k.objects → o.object.0 ≡ x.object.0 → o.found ≡ finding k → Opens k x b b o
-  opens_same x o e p f = record {
-    found = f ∙ ap (λ (y : ObjectStore). finding (with_objects k y)) (sym e);
-    same = λ z. refl;
-    holds = λ z. rw e (holds b s);
-    object = λ z. p;
-  }
+  pub opens_same : (x : Resolved) (o : Result ObjectId Refusal) (i : ObjectId) → x.store ≡ k.objects → i.0 ≡ x.object.0 → o ≡ unless_found (finding k) i → Opens k x b b o
+  opens_same x o i e p f =
+      let g : found_in o ≡ finding k = ap found_in f ∙ found-finding k i in record {
+        found = g ∙ ap (λ (y : ObjectStore). finding (with_objects k y)) (sym e);
+        same = λ z. refl;
+        holds = λ z. rw e (holds b s);
+        object = λ z. ap object_in (f ∙ ap (λ (n : ℕ). unless_found n i) (sym g ∙ z)) ∙ p;
+      }
 
   pub thread-kept : (t : ℕ) → kept_at k.objects t ≢ 0 → thread_object k.objects t ≡ k.objects
   unfolding thread_object
@@ -83,25 +85,30 @@ module _ (b : List ℕ) (s : sound? b ≡ true) where
   process-finding e = ap (λ (y : ObjectStore). finding (with_objects k y)) (made-process e) ∙ making _ Process refl refl
 
   -- there was no room
-  pub opens_refused : (x : Resolved) (o : Opened) → o.found ≡ found_making k → finding (with_objects k x.store) ≡ found_making k → o.found ≢ 0 → Opens k x b b o
-  opens_refused x o f e z = record { found = f ∙ sym e; same = λ w. refl; holds = λ w. absurd (z w); object = λ w. absurd (z w) }
+  pub opens_refused : (x : Resolved) (r : Refusal) → unless_found {A = Unit {0}} (found_making k) tt ≡ Err r → finding (with_objects k x.store) ≡ found_making k → Opens k x b b (Err r)
+  opens_refused x r q e = record {
+    found = sym (ap found_in q) ∙ found-room {A = Unit {0}} _ _ tt ∙ sym e;
+    same = λ w. refl;
+    holds = λ w. absurd (refusal-some r w);
+    object = λ w. absurd (refusal-some r w);
+  }
 
-  pub opens_process : (e : List ℕ) (o : Opened) → k.objects.process_object.0 ≡ 0 → o.object.0 ≡ k.objects.free → o.found ≡ 0 → found_making k ≡ 0
-      → Holds e (with_objects k (with_process (insert k.objects Process) (record { 0 = k.objects.free }))) → Opens k (of_process k.objects) b e o
-  opens_process e o p q f g h = record {
-    found = f ∙ sym (process-finding p ∙ g);
-    same = λ z. absurd (z f);
+  pub opens_process : (e : List ℕ) (i : ObjectId) → k.objects.process_object.0 ≡ 0 → i.0 ≡ k.objects.free → found_making k ≡ 0
+      → Holds e (with_objects k (with_process (insert k.objects Process) (record { 0 = k.objects.free }))) → Opens k (of_process k.objects) b e (Ok i)
+  opens_process e i p q g h = record {
+    found = sym (process-finding p ∙ g);
+    same = λ z. absurd (z refl);
     holds = λ z. rw (made-process p) h;
     object = λ z. q ∙ ap (λ (y : ObjectStore). y.process_object.0) (sym (made-process p));
   }
 
-  pub opens_thread : (t : ℕ) (m : List ℕ) (o : Opened) → kept_at k.objects t ≡ 0 → o.object.0 ≡ pick (ltb t 32) k.objects.free 0 → o.found ≡ 0 → found_making k ≡ 0
+  pub opens_thread : (t : ℕ) (m : List ℕ) (i : ObjectId) → kept_at k.objects t ≡ 0 → i.0 ≡ pick (ltb t 32) k.objects.free 0 → found_making k ≡ 0
       → Holds m (with_objects k (with_process (insert k.objects (Thread t)) k.objects.process_object))
-      → Opens k (of_current k.objects (SomeThread t)) b (kept_put m t (record { 0 = k.objects.free })) o
+      → Opens k (of_current k.objects (Some t)) b (kept_put m t (record { 0 = k.objects.free })) (Ok i)
   unfolding insert
-  opens_thread t m o p q f g h = record {
-    found = f ∙ sym (thread-finding t p ∙ g);
-    same = λ z. absurd (z f);
+  opens_thread t m i p q g h = record {
+    found = sym (thread-finding t p ∙ g);
+    same = λ z. absurd (z refl);
     holds = λ z. rw (made-thread t p) (put-kept h t (record { 0 = k.objects.free }));
     object = λ z. q ∙ sym (ap (λ (y : ObjectStore). kept_at y t) (made-thread t p) ∙ kept_put_lem k.objects.thread_objects t k.objects.free (holds b s).sizes.ni);
   }

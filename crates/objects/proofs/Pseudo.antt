@@ -1,4 +1,5 @@
 -- What a pseudo-handle names: the object of a thread or of the process. Assumes nothing.
+use Rattle.std.specs.Prelude.{Option, Some, None, Result, Ok, Err}
 use mathlib.Core.Path.{◌≡◌, refl, sym, ap, ◌∙◌}
 use mathlib.Core.Bool.{Bool, true, false}
 use mathlib.Core.List.{List}
@@ -11,8 +12,6 @@ use Rattle.types.specs.declared.object.KObject.{KObject}
 use Rattle.types.specs.declared.object.KObject.TheVariants.{Free, Semaphore}
 use Rattle.types.specs.declared.sync.Semaphore as se
 use Rattle.types.specs.declared.object.ObjectStore.{ObjectStore}
-use Rattle.types.specs.declared.thread.ThreadOption.{ThreadOption}
-use Rattle.types.specs.declared.thread.ThreadOption.TheVariants.{NoThread, SomeThread}
 use Rattle.types.specs.declared.kernel.Kernel.{Kernel}
 use Rattle.block.specs.Block.{dec_block, enc_block}
 use Rattle.sound.specs.View.{slot_at, object_at}
@@ -24,7 +23,9 @@ use Rattle.pass.specs.Asks.{pseudo}
 use Rattle.svc.specs.Call.{with_objects, resolved}
 use Rattle.svc.proofs.Handles.{plain}
 use Rattle.rows.specs.Holds.{holds}
-use Rattle.objects.specs.declared.open.Opened.{Opened}
+use Rattle.units.specs.declared.ObjectId.{ObjectId}
+use Rattle.types.specs.declared.refusal.Refusal.{Refusal}
+use Rattle.types.specs.Refusal.{found_in}
 use Rattle.objects.specs.Open.{Opens}
 use Rattle.objects.proofs.Sound.{opened-sound}
 
@@ -46,12 +47,12 @@ module _ (P : KObject → Type 0) (none : P (Free 0)) (some : (x : KObject) → 
     | inr h ↦ no-object s s.process_object.0 (omega arith)
   ]
 
-  object_if : (p q : Bool) (s : ObjectStore) (c : ThreadOption) (x : Resolved) → p or q ≡ true
+  object_if : (p q : Bool) (s : ObjectStore) (c : Option ℕ) (x : Resolved) → p or q ≡ true
       → KeptOk (pick p (of_current s c) (pick q (record { object = (process_object s).process_object; store = process_object s }) x)).store
       → P (object_at (pick p (of_current s c) (pick q (record { object = (process_object s).process_object; store = process_object s }) x)).store (pick p (of_current s c) (pick q (record { object = (process_object s).process_object; store = process_object s }) x)).object.0)
   unfolding ◌or◌
-  object_if true q s NoThread x e ok = no-object s 0 refl
-  object_if true q s (SomeThread t) x e ok = of-thread (thread_object s t) ok t
+  object_if true q s None x e ok = no-object s 0 refl
+  object_if true q s (Some t) x e ok = of-thread (thread_object s t) ok t
   object_if false true s c x e ok = of-process (process_object s) ok
   object_if false false s c x e ok = false-true e
 
@@ -63,7 +64,7 @@ free_other : (c : se.Semaphore) → Free 0 ≡ Semaphore c → ⊥
 free_other c e = let z : ◌≡◌ {A = ℕ} 0 1 = cc in omega arith
 
 -- a handle that names a semaphore makes no object
-pub unmade : (b : List ℕ) (s : sound? b ≡ true) (h : ℕ) (e : List ℕ) (o : Opened) → Opens (dec_block b) (resolved (dec_block b) h) b e o → o.found ≡ 0
+pub unmade : (b : List ℕ) (s : sound? b ≡ true) (h : ℕ) (e : List ℕ) (o : Result ObjectId Refusal) → Opens (dec_block b) (resolved (dec_block b) h) b e o → found_in o ≡ 0
     → (m : se.Semaphore) → object_at (resolved (dec_block b) h).store (resolved (dec_block b) h).object.0 ≡ Semaphore m → e ≡ b
 unmade b s h e o p z m u = go (pseudo h) refl
   where

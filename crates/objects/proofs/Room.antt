@@ -1,4 +1,5 @@
 -- Whether an object can be made for a handle, and what the store says after that. Assumes nothing.
+use Rattle.std.specs.Prelude.{Option, Some, None}
 use mathlib.Core.Path.{◌≡◌, refl, sym, ap, ◌∙◌}
 use mathlib.Core.Bool.{Bool, true, false}
 use mathlib.Core.List.{List}
@@ -10,8 +11,6 @@ use Rattle.laws.specs.Logic.{pick, ◌and◌, ◌or◌, and-end, and-false}
 use Rattle.codec.specs.Bytes.{le}
 use Rattle.codec.specs.Layout.{dec_as}
 use Rattle.types.specs.declared.object.ObjectStore.{ObjectStore}
-use Rattle.types.specs.declared.thread.ThreadOption.{ThreadOption}
-use Rattle.types.specs.declared.thread.ThreadOption.TheVariants.{NoThread, SomeThread}
 use Rattle.types.specs.declared.kernel.Kernel.{Kernel}
 use Rattle.block.specs.Block.{dec_block}
 use Rattle.sound.specs.Objects.{kept_at}
@@ -31,10 +30,10 @@ made-full true f s y e g = g ∙ ap (λ (v : Bool). v or f) e ∙ sym (and-end f
 made-full false f s y e g = e ∙ sym (and-false f)
 
 module _ (s : ObjectStore) (e : s.full ≡ false) where
-  current-full : (c : ThreadOption) → (of_current s c).store.full ≡ eqb s.free 0 and makes_current s c
+  current-full : (c : Option ℕ) → (of_current s c).store.full ≡ eqb s.free 0 and makes_current s c
   unfolding thread_object insert
-  current-full NoThread = e ∙ sym (and-false (eqb s.free 0))
-  current-full (SomeThread t) = made-full (eqb (kept_at s t) 0) (eqb s.free 0) s _ e refl
+  current-full None = e ∙ sym (and-false (eqb s.free 0))
+  current-full (Some t) = made-full (eqb (kept_at s t) 0) (eqb s.free 0) s _ e refl
 
   process-full : (process_object s).full ≡ eqb s.free 0 and eqb s.process_object.0 0
   unfolding process_object insert
@@ -91,7 +90,7 @@ module _ (b : List ℕ) (h : ℕ) where
     unfolding ◌and◌
     room-none z = rw (eq-eqb j.objects.free 0 (sym free-is ∙ z))
 
-  pub makes-current : h ≡ 0xFFFF8000 → (c : ThreadOption) → c ≡ j.current_thread → makes_current j.objects c ≡ makes j h
+  pub makes-current : h ≡ 0xFFFF8000 → (c : Option ℕ) → c ≡ j.current_thread → makes_current j.objects c ≡ makes j h
   makes-current w c q = rw (q, eq-eqb h 0xFFFF8000 w)
 
   -- p is the process's object

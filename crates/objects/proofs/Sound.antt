@@ -1,4 +1,5 @@
 -- A block stays sound when a handle is opened. Assumes nothing.
+use Rattle.std.specs.Prelude.{Result, Ok, Err}
 use mathlib.Core.Path.{◌≡◌, refl, sym, ap, ◌∙◌}
 use mathlib.Core.Bool.{Bool, true, false}
 use mathlib.Core.List.{List}
@@ -17,7 +18,9 @@ use Rattle.calling.specs.Resolves.{resolved-parts}
 use Rattle.svc.specs.Call.{with_objects, resolved}
 use Rattle.lent.specs.Operations.{finding, out_of_handles?}
 use Rattle.outcome.specs.Findings.{parts-finding, none_found}
-use Rattle.objects.specs.declared.open.Opened.{Opened}
+use Rattle.units.specs.declared.ObjectId.{ObjectId}
+use Rattle.types.specs.declared.refusal.Refusal.{Refusal}
+use Rattle.types.specs.Refusal.{found_in}
 use Rattle.objects.specs.Open.{Opens}
 
 module _ (b : List ℕ) (s : sound? b ≡ true) (h : ℕ) where
@@ -33,15 +36,15 @@ module _ (b : List ℕ) (s : sound? b ≡ true) (h : ℕ) where
       made-sound
       (none_found (resolved (dec_block b) h).store.full ((resolved (dec_block b) h).store.overflow or out_of_handles? (dec_block b)) (sym (parts-finding b (dec_block b).threads (resolved (dec_block b) h).store) ∙ z)).0
 
-  pub opened-block : (e : List ℕ) (o : Opened) → Opens (dec_block b) (resolved (dec_block b) h) b e o → sound? e ≡ true
-  opened-block e o p = go (eqb o.found 0) refl
+  pub opened-block : (e : List ℕ) (o : Result ObjectId Refusal) → Opens (dec_block b) (resolved (dec_block b) h) b e o → sound? e ≡ true
+  opened-block e o p = go (eqb (found_in o) 0) refl
     where
-      go : (t : Bool) → eqb o.found 0 ≡ t → sound? e ≡ true
+      go : (t : Bool) → eqb (found_in o) 0 ≡ t → sound? e ≡ true
       go true f =
-          let z = eqb-true o.found 0 f in
+          let z = eqb-true (found_in o) 0 f in
           ap sound? (p.holds z).same ∙ encoded-sound q (opened-sound (sym p.found ∙ z))
-      go false f = ap sound? (p.same (eqb-false o.found 0 f)) ∙ s
+      go false f = ap sound? (p.same (eqb-false (found_in o) 0 f)) ∙ s
 
   -- it decodes to that state
-  pub opened-state : (e : List ℕ) (o : Opened) → Opens (dec_block b) (resolved (dec_block b) h) b e o → o.found ≡ 0 → dec_block e ≡ q
+  pub opened-state : (e : List ℕ) (o : Result ObjectId Refusal) → Opens (dec_block b) (resolved (dec_block b) h) b e o → found_in o ≡ 0 → dec_block e ≡ q
   opened-state e o p z = ap dec_block (p.holds z).same ∙ block_back q (opened-sound (sym p.found ∙ z)).fits

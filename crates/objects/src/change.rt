@@ -3,13 +3,13 @@ ghost use Rattle.std.specs.Prelude.{◌≡◌, length};
 ghost use Rattle.object.specs.Slots.{with_object};
 ghost use Rattle.rows.specs.Rows.{slot_put};
 
+use block::Block;
 use rows::write;
 use types::object::{KObject, Slot};
 use units::ObjectId;
 
 // The slot x of the object o, with v.
-pub fn content(block: &mut [u8], o: ObjectId, x: Slot, v: KObject)
-    requires { length block.old ≡ 16384 }
+pub fn content(block: &mut Block, o: ObjectId, x: Slot, v: KObject)
     ensures { block.new ≡ slot_put block.old o.0 (with_object x v) }
 {
     write::put_slot(

@@ -1,5 +1,5 @@
 // The object that a handle names (`resolve` of mod.rs). The current thread's and the process's are made on first use.
-ghost use Rattle.std.specs.Prelude.{◌≡◌, true, ltb, length};
+ghost use Rattle.std.specs.Prelude.{◌≡◌, true, ltb, length, Some};
 ghost use Rattle.laws.specs.Logic.{pick};
 ghost use Rattle.block.specs.Block.{dec_block};
 ghost use Rattle.sound.specs.Question.{sound?};
@@ -7,77 +7,52 @@ ghost use Rattle.object.specs.Slots.{with_process};
 ghost use Rattle.object.specs.Store.{insert};
 ghost use Rattle.object.specs.Kept.{of_current};
 ghost use Rattle.svc.specs.Call.{with_objects, resolved};
+ghost use Rattle.types.specs.Refusal.{unless_found};
 ghost use Rattle.lent.specs.Operations.{finding};
 ghost use Rattle.rows.specs.Holds.{Holds};
 ghost use Rattle.objects.specs.Open.{Opens, of_process, makes_current, no_room, named, found_making};
 ghost use Rattle.objects.specs.Open as def;
 
-use block::Head;
+use block::{Block, Head};
 use codec::Four;
 use rows::{read, write};
 use types::object::{KObject, Slot};
-use types::thread::ThreadOption;
+use types::refusal::Refusal;
 use units::{Handle, ObjectId};
 
-// The object, 0 if there is none, and what questions 7 and 8 found, 0 for nothing.
-#[derive(Clone, Copy)]
-pub struct Opened {
-    pub object: ObjectId,
-    pub found: u32,
-}
-
 // A new object in the first free slot, and the number of the process's.
-fn put_inserted(block: &mut [u8], v: KObject, process: ObjectId)
-    requires block_len { length block.old ≡ 16384 }
+fn put_inserted(block: &mut Block, v: KObject, process: ObjectId)
     requires block_value { sound? block.old ≡ true }
     ensures { Holds block.new (with_objects (dec_block block.old) (with_process (insert (dec_block block.old).objects v) process)) }
 {
     let head = block::get_head(block);
-    let p = head.a;
-    let q = head.b;
-    let c = head.c;
-    let old = read::slot_at(block, ObjectId(c.0));
-    let x = old.object;
-    let mark = old.pulsed;
-    let next = types::object::next_of(x);
-    write::put_slot(
-        block,
-        ObjectId(c.0),
-        Slot {
-            object: v,
-            refcount: 1,
-            pulsed: mark,
-        },
-    );
-    write::put_head(
-        block,
-        Head {
-            a: p,
-            b: q,
-            c: Four(next, c.1, c.2, c.3),
-            d: Four(process.0, 0, 0, 0),
-        },
-    );
+    let o = ObjectId(head.c.0);
+    let old = read::slot_at(block, o);
+    let next = types::object::next_of(old.object);
+    let slot = Slot {
+        object: v,
+        refcount: 1,
+        ..old
+    };
+    write::put_slot(block, o, slot);
+    let c = Four(next, head.c.1, head.c.2, head.c.3);
+    let d = Four(process.0, 0, 0, 0);
+    write::put_head(block, Head { c, d, ..head });
 }
 
 // Nothing is made.
-fn there(block: &[u8], o: ObjectId) -> Opened
-    requires { length block.now ≡ 16384 }
-    ensures object_value { result.object ≡ o }
-    ensures found_value { result.found ≡ finding (dec_block block.now) }
+fn there(block: &Block, o: ObjectId) -> Result<ObjectId, Refusal>
+    ensures { result ≡ unless_found (finding (dec_block block.now)) o }
 {
-    Opened {
-        object: o,
-        found: outcome::found_of(false, outcome::out_of_handles(block)),
-    }
+    outcome::room(false, outcome::out_of_handles(block))?;
+    Ok(o)
 }
 
-// What is found if an object must be made.
-fn found_making(block: &[u8]) -> u32
-    requires { length block.now ≡ 16384 }
-    ensures { result ≡ found_making (dec_block block.now) }
+// Room for an object that must be made.
+fn room_to_make(block: &Block) -> Result<(), Refusal>
+    ensures { result ≡ unless_found (found_making (dec_block block.now)) tt }
 {
-    outcome::found_of(codec::get32(block, 32) == 0, outcome::out_of_handles(block))
+    outcome::room(codec::get32(block, 32) == 0, outcome::out_of_handles(block))
 }
 
 // A number past the places keeps no object.
@@ -90,36 +65,24 @@ fn kept_after(t: u32, o: ObjectId) -> ObjectId
     ObjectId(0)
 }
 
-// With a finding the block stays as it is, and the object is left open: the callers refuse then.
-fn open_thread(block: &mut [u8], t: u32) -> Opened
-    requires block_len { length block.old ≡ 16384 }
+// If it is refused the block stays as it is.
+fn open_thread(block: &mut Block, t: u32) -> Result<ObjectId, Refusal>
     requires block_value { sound? block.old ≡ true }
-    ensures { Opens (dec_block block.old) (of_current (dec_block block.old).objects (ThreadOption.SomeThread t)) block.old block.new result }
+    ensures { Opens (dec_block block.old) (of_current (dec_block block.old).objects (Some t)) block.old block.new result }
 {
     let o = read::kept_at(block, t);
     if o.0 != 0 {
         return there(block, o);
     }
-    let found = found_making(block);
-    if found != 0 {
-        return Opened {
-            object: o,
-            found: found,
-        };
-    }
+    room_to_make(block)?;
     let free = codec::get32(block, 32);
     let process = codec::get32(block, 48);
     put_inserted(block, KObject::Thread(t), ObjectId(process));
     write::put_kept(block, t, ObjectId(free));
-    Opened {
-        object: kept_after(t, ObjectId(free)),
-        found: 0,
-    }
+    Ok(kept_after(t, ObjectId(free)))
 }
 
-// With a finding as `open_thread`.
-fn open_process(block: &mut [u8]) -> Opened
-    requires block_len { length block.old ≡ 16384 }
+fn open_process(block: &mut Block) -> Result<ObjectId, Refusal>
     requires block_value { sound? block.old ≡ true }
     ensures { Opens (dec_block block.old) (of_process (dec_block block.old).objects) block.old block.new result }
 {
@@ -127,36 +90,24 @@ fn open_process(block: &mut [u8]) -> Opened
     if o != 0 {
         return there(block, ObjectId(o));
     }
-    let found = found_making(block);
-    if found != 0 {
-        return Opened {
-            object: ObjectId(o),
-            found: found,
-        };
-    }
+    room_to_make(block)?;
     let free = codec::get32(block, 32);
     put_inserted(block, KObject::Process, ObjectId(free));
-    Opened {
-        object: ObjectId(free),
-        found: 0,
-    }
+    Ok(ObjectId(free))
 }
 
-// With a finding as `open_thread`.
-fn open_current(block: &mut [u8], current: ThreadOption) -> Opened
-    requires block_len { length block.old ≡ 16384 }
+fn open_current(block: &mut Block, current: Option<u32>) -> Result<ObjectId, Refusal>
     requires block_value { sound? block.old ≡ true }
     ensures { Opens (dec_block block.old) (of_current (dec_block block.old).objects current) block.old block.new result }
 {
     match current {
-        ThreadOption::NoThread => there(block, ObjectId(0)),
-        ThreadOption::SomeThread(t) => open_thread(block, t),
+        None => there(block, ObjectId(0)),
+        Some(t) => open_thread(block, t),
     }
 }
 
-// With a finding the block stays as it is, and the object is left open: the callers refuse then.
-pub fn resolve(block: &mut [u8], h: Handle) -> Opened
-    requires block_len { length block.old ≡ 16384 }
+// The object, 0 if there is none. If it is refused the block stays as it is.
+pub fn resolve(block: &mut Block, h: Handle) -> Result<ObjectId, Refusal>
     requires block_value { sound? block.old ≡ true }
     ensures opens { Opens (dec_block block.old) (resolved (dec_block block.old) h.0) block.old block.new result }
     ensures block_after { sound? block.new ≡ true }
@@ -173,13 +124,12 @@ pub fn resolve(block: &mut [u8], h: Handle) -> Opened
     there(block, o)
 }
 
-fn makes_current(block: &[u8], current: ThreadOption) -> bool
-    requires { length block.now ≡ 16384 }
+fn makes_current(block: &Block, current: Option<u32>) -> bool
     ensures { result ≡ makes_current (dec_block block.now).objects current }
 {
     match current {
-        ThreadOption::NoThread => false,
-        ThreadOption::SomeThread(t) => {
+        None => false,
+        Some(t) => {
             let o = read::kept_at(block, t);
             o.0 == 0
         }
@@ -187,8 +137,7 @@ fn makes_current(block: &[u8], current: ThreadOption) -> bool
 }
 
 // The object of the handle is yet to be made.
-pub fn makes(block: &[u8], h: Handle) -> bool
-    requires { length block.now ≡ 16384 }
+pub fn makes(block: &Block, h: Handle) -> bool
     ensures { result ≡ def.makes (dec_block block.now) h.0 }
 {
     let n = h.0;
@@ -203,8 +152,7 @@ pub fn makes(block: &[u8], h: Handle) -> bool
 }
 
 // It is, and no slot is free. For a call that writes before it opens the handle.
-pub fn no_room(block: &[u8], h: Handle) -> bool
-    requires { length block.now ≡ 16384 }
+pub fn no_room(block: &Block, h: Handle) -> bool
     ensures { result ≡ no_room (dec_block block.now) h.0 }
 {
     if codec::get32(block, 32) != 0 {
@@ -214,14 +162,13 @@ pub fn no_room(block: &[u8], h: Handle) -> bool
 }
 
 // Whether the handle names an object once it is open.
-pub fn names(block: &[u8], h: Handle) -> bool
-    requires { length block.now ≡ 16384 }
+pub fn names(block: &Block, h: Handle) -> bool
     ensures { result ≡ named (dec_block block.now).current_thread (dec_block block.now).handles h.0 }
 {
     let n = h.0;
     if n == 0xFFFF8000 {
         let current = read::current(block);
-        return types::thread::thread_flag(current) != 0;
+        return types::thread::option_flag(current) != 0;
     }
     if n == 0xFFFF8001 {
         return true;

@@ -1,11 +1,14 @@
 -- What a call finds of the state that a block decodes to, with one of its parts anew. Assumes nothing.
-use Rattle.std.specs.Prelude.{◌≡◌, refl, Bool, true, false, List, ℕ, ◌+◌, ltb, leb}
-use Rattle.std.proofs.Common.{inl, inr, arith, lt-ltb, le-ltb, le-leb}
+use Rattle.std.specs.Prelude.{◌≡◌, refl, Bool, true, false, List, ℕ, ◌+◌, ltb, leb, Result, Ok, Err}
+use Rattle.std.proofs.Common.{inl, inr, ap, sym, ◌∙◌, arith, lt-ltb, le-ltb, le-leb}
 use Rattle.std.proofs.lemmas.Bool.{lt-leb}
 use Rattle.laws.specs.Logic.{pick, ◌or◌, lt-cases}
 use Rattle.types.specs.declared.object.ObjectStore.{ObjectStore}
 use Rattle.types.specs.declared.object.HandleTable.{HandleTable}
 use Rattle.types.specs.declared.thread.Thread.{Thread}
+use Rattle.types.specs.declared.refusal.Refusal.{Refusal}
+use Rattle.types.specs.Refusal.{refusal_number, found_in, unless_found}
+use Rattle.types.specs.declared.kernel.Kernel.{Kernel}
 use Rattle.block.specs.Block.{dec_block}
 use Rattle.thread.specs.Threads.{with_threads}
 use Rattle.svc.specs.declared.Served.{Served}
@@ -21,6 +24,22 @@ pub none_found : (f v : Bool) → found_of f v ≡ 0 → (f ≡ false) × (v ≡
 none_found true v e = absurd (omega (arith, e))
 none_found false true e = absurd (omega (arith, e))
 none_found false false e = (refl, refl)
+
+-- what a call is refused for is what is found
+pub found-room : {A : Type 0} (f v : Bool) (x : A) → found_in (unless_found (found_of f v) x) ≡ found_of f v
+found-room true v x = refl
+found-room false true x = refl
+found-room false false x = refl
+
+pub room-none : {A : Type 0} (f v : Bool) (x y : A) → unless_found (found_of f v) x ≡ Ok y → found_of f v ≡ 0
+room-none f v x y e = sym (found-room f v x) ∙ ap found_in e
+
+pub room-refused : {A : Type 0} (f v : Bool) (x : A) (r : Refusal) → unless_found (found_of f v) x ≡ Err r → found_of f v ≡ refusal_number r
+room-refused f v x r e = sym (found-room f v x) ∙ ap found_in e
+
+pub found-finding : {A : Type 0} (k : Kernel) (x : A) → found_in (unless_found (finding k) x) ≡ finding k
+unfolding finding
+found-finding k x = found-room _ _ x
 
 -- the next handle past the last that is allowed
 pub next-over : (n : ℕ) → leb 0xFFFF8000 n or ltb 0xFFFF8000 (pick (ltb n 0xFFFF8000) (n + 1) n) ≡ leb 0xFFFF8000 n

@@ -1,54 +1,53 @@
 -- What a call leaves beside the state, and in the block. Assumes nothing.
-use Rattle.std.specs.Prelude.{◌≡◌, Bool, List, ℕ}
+use Rattle.std.specs.Prelude.{◌≡◌, Bool, List, ℕ, Some, None, Result, Ok, Err}
 use Rattle.std.proofs.Math.Path.{refl, sym}
 use Rattle.std.proofs.Math.Bool.{true, false}
 use Rattle.std.proofs.Math.Dec.{eqb}
 use borrow.Author.Tests.{eqb-true, eq-eqb, ne_eqb}
 use Rattle.laws.specs.Logic.{pick}
+use Rattle.types.specs.declared.refusal.Refusal.{Refusal}
+use Rattle.types.specs.Refusal.{refusal_number, refusal_of, refusal-back, refusal-some, found_in, unless_found}
 use Rattle.block.specs.Block.{enc_block}
 use Rattle.svc.specs.declared.Served.{Served}
-use Rattle.svc.specs.declared.WordOption.TheVariants.{NoWord, SomeWord}
 use Rattle.lent.specs.Operations.{finding}
 use Rattle.outcome.specs.declared.Outcome.{Outcome}
-
--- with a finding nothing else is given
-abbrev pub refused : ℕ → Outcome
-refused n = record { found = n; answer = 0; r0 = NoWord; r1 = NoWord; word = NoWord }
+use Rattle.outcome.specs.Findings.{found-finding}
 
 -- the answer n, which r0 gets too
 abbrev pub answered : ℕ → Outcome
-answered n = record { found = 0; answer = n; r0 = SomeWord n; r1 = NoWord; word = NoWord }
+answered n = record { answer = n; r0 = Some n; r1 = None; word = None }
 
 -- done, and r1 gets v
 abbrev pub given : ℕ → Outcome
-given v = record { found = 0; answer = 0; r0 = SomeWord 0; r1 = SomeWord v; word = NoWord }
+given v = record { answer = 0; r0 = Some 0; r1 = Some v; word = None }
+
+-- done, and no register is written
+abbrev pub silent : Outcome
+silent = record { answer = 0; r0 = None; r1 = None; word = None }
 
 abbrev pub accepted : Served → Outcome
-accepted s = record { found = 0; answer = s.answer; r0 = s.r0; r1 = s.r1; word = s.word }
+accepted s = record { answer = s.answer; r0 = s.r0; r1 = s.r1; word = s.word }
 
-unfoldable pub outcome : Served → Outcome
-outcome s = pick (eqb (finding s.kernel) 0) (accepted s) (refused (finding s.kernel))
+-- with a finding nothing is left but the refusal that it says
+unfoldable pub outcome : Served → Result Outcome Refusal
+outcome s = unless_found (finding s.kernel) (accepted s)
 
 -- with a finding the block stays as it is
 unfoldable pub left : Served → List ℕ → List ℕ
 left s b = pick (eqb (finding s.kernel) 0) (enc_block s.kernel) b
 
 module _ (s : Served) where
-  pub outcome-0 : finding s.kernel ≡ 0 → outcome s ≡ accepted s
+  pub outcome-0 : finding s.kernel ≡ 0 → outcome s ≡ Ok (accepted s)
   unfolding outcome
   outcome-0 e = rw (eq-eqb _ 0 e)
 
-  pub outcome-found : (n : ℕ) → finding s.kernel ≡ n → (n ≡ 0 → ⊥) → outcome s ≡ refused n
+  pub outcome-found : (r : Refusal) → finding s.kernel ≡ refusal_number r → outcome s ≡ Err r
   unfolding outcome
-  outcome-found n e z = rw (e, ne_eqb n 0 z)
+  outcome-found r e = rw (e, ne_eqb (refusal_number r) 0 (refusal-some r), refusal-back r)
 
-  pub found-is : (outcome s).found ≡ finding s.kernel
+  pub found-is : found_in (outcome s) ≡ finding s.kernel
   unfolding outcome
-  found-is = go (finding s.kernel) (eqb (finding s.kernel) 0) refl
-    where
-      go : (n : ℕ) (t : Bool) → eqb n 0 ≡ t → (pick t (accepted s) (refused n)).found ≡ n
-      go n true e = sym (eqb-true n 0 e)
-      go n false e = refl
+  found-is = found-finding s.kernel (accepted s)
 
   module _ (b : List ℕ) where
     pub left-0 : finding s.kernel ≡ 0 → left s b ≡ enc_block s.kernel

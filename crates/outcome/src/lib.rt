@@ -1,70 +1,82 @@
 // What a call leaves. Its state goes into the block where the call ends: by value it would be copied on each way up.
 #![tactic(auto)]
 
-ghost use Rattle.std.specs.Prelude.{◌≡◌, length};
+ghost use Rattle.std.specs.Prelude.{◌≡◌};
+ghost use Rattle.types.specs.Refusal.{unless_found};
+ghost use Rattle.outcome.specs.Answer.{answer_number};
 ghost use Rattle.outcome.specs.Outcome as def;
 ghost use Rattle.outcome.specs.Findings.{found_of};
 ghost use Rattle.block.specs.Block.{dec_block};
 ghost use Rattle.lent.specs.Operations.{out_of_handles?};
 
+use block::Block;
 use lent::questions;
-use svc::WordOption;
+use types::refusal::Refusal;
 use units::Handle;
 
-// What a call leaves beside the state; found is what questions 7 and 8 found, 0 for nothing.
-#[derive(Clone, Copy)]
-pub struct Outcome {
-    pub found: u32,
-    pub answer: u32,
-    pub r0: WordOption,
-    pub r1: WordOption,
-    pub word: WordOption,
+// What a call answers its thread; r0 gets the number.
+#[derive(Clone, Copy, PartialEq, Eq)]
+pub enum Answer {
+    Done,
+    // The handle names no object, or one of another kind.
+    UnknownHandle,
+    // The time-out was 0, and nothing was there.
+    TimedOut,
+    // ArbitrateAddress has no such kind.
+    UnknownKind,
 }
 
-// With a finding nothing else is given.
-pub fn refused(found: u32) -> Outcome
-    ensures { result ≡ def.refused found }
-{
-    Outcome {
-        found: found,
-        answer: 0,
-        r0: WordOption::NoWord,
-        r1: WordOption::NoWord,
-        word: WordOption::NoWord,
+impl From<Answer> for u32 {
+    ghost from_gives = { λ a n. n ≡ answer_number a };
+
+    fn from(a: Answer) -> u32 {
+        match a {
+            Answer::Done => 0,
+            Answer::UnknownHandle => 16,
+            Answer::TimedOut => 17,
+            Answer::UnknownKind => 18,
+        }
     }
+}
+
+// What a call that is not refused leaves beside the state.
+#[derive(Clone, Copy)]
+pub struct Outcome {
+    pub answer: u32,
+    pub r0: Option<u32>,
+    pub r1: Option<u32>,
+    pub word: Option<u32>,
 }
 
 // Question 7 before question 8.
-pub fn found_of(full: bool, over: bool) -> u32
-    ensures { result ≡ found_of full over }
+pub fn room(full: bool, over: bool) -> Result<(), Refusal>
+    ensures { result ≡ unless_found (found_of full over) tt }
 {
     if full {
-        return 7;
+        return Err(Refusal::Full);
     }
     if over {
-        return 8;
+        return Err(Refusal::Overflow);
     }
-    0
+    Ok(())
 }
 
 // Question 8 of the handles as they are.
-pub fn out_of_handles(block: &[u8]) -> bool
-    requires { length block.now ≡ 16384 }
+pub fn out_of_handles(block: &Block) -> bool
     ensures { result ≡ out_of_handles? (dec_block block.now) }
 {
     questions::out_of_handles(Handle(codec::get32(block, 44)))
 }
 
-// The answer n, which r0 gets too.
-pub fn answers(n: u32) -> Outcome
-    ensures { result ≡ def.answered n }
+// The answer, which r0 gets too.
+pub fn answers(a: Answer) -> Outcome
+    ensures { result ≡ def.answered (answer_number a) }
 {
     Outcome {
-        found: 0,
-        answer: n,
-        r0: WordOption::SomeWord(n),
-        r1: WordOption::NoWord,
-        word: WordOption::NoWord,
+        answer: u32::from(a),
+        r0: Some(u32::from(a)),
+        r1: None,
+        word: None,
     }
 }
 
@@ -72,7 +84,7 @@ pub fn answers(n: u32) -> Outcome
 pub fn done() -> Outcome
     ensures { result ≡ def.answered 0 }
 {
-    answers(0)
+    answers(Answer::Done)
 }
 
 // Done, and r1 gets v.
@@ -80,17 +92,14 @@ pub fn gives(v: u32) -> Outcome
     ensures { result ≡ def.given v }
 {
     Outcome {
-        found: 0,
-        answer: 0,
-        r0: WordOption::SomeWord(0),
-        r1: WordOption::SomeWord(v),
-        word: WordOption::NoWord,
+        r1: Some(v),
+        ..done()
     }
 }
 
-// No register is written.
+// Done, and no register is written.
 pub fn silent() -> Outcome
-    ensures { result ≡ def.refused 0 }
+    ensures { result ≡ def.silent }
 {
-    refused(0)
+    Outcome { r0: None, ..done() }
 }

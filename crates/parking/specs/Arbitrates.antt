@@ -1,12 +1,10 @@
 -- `arbitrate_address` keeps a state sound.
-use Rattle.std.specs.Prelude.{◌≡◌, refl, Bool, true, false, ℕ, ◌≤◌, ◌<◌, eqb}
+use Rattle.std.specs.Prelude.{◌≡◌, refl, Bool, true, false, ℕ, ◌≤◌, ◌<◌, eqb, Option, Some, None}
 use Rattle.std.proofs.Common.{inl, inr, arith}
 use Rattle.std.proofs.lemmas.Bool.{eqb-false}
 use Rattle.laws.specs.Logic.{pick}
 use Rattle.types.specs.declared.sync.ArbitrationType.{ArbitrationType}
 use Rattle.types.specs.declared.sync.ArbitrationType.TheVariants.{Signal, WaitIfLessThan, DecrementAndWaitIfLessThan, WaitIfLessThanWithTimeout, DecrementAndWaitIfLessThanWithTimeout}
-use Rattle.types.specs.declared.sync.ArbitrationOption.{ArbitrationOption}
-use Rattle.types.specs.declared.sync.ArbitrationOption.TheVariants.{NoArbitration, SomeArbitration}
 use Rattle.types.specs.declared.kernel.Kernel.{Kernel}
 use Rattle.types.specs.Sync.{arbitration_from_raw}
 use Rattle.sound.specs.Sound.{Sound}
@@ -72,14 +70,14 @@ module _ (kind : ArbitrationType) (k : Kernel) (r : Registers) (word tick : ℕ)
   served-answers false = inl (as_answer (with_objects k (resolved k r.r0).store) (resolved k r.r0).object.0 r.r1 r.r3 word (pair r.r4 r.r5) tick kind)
 
 -- ---- an unknown kind is refused before that
-by_parts : (kind : ArbitrationOption) (k : Kernel) (r : Registers) (word tick : ℕ) → RegistersFit r → Unlisted k.threads k.current_thread → Parts k
+by_parts : (kind : Option ArbitrationType) (k : Kernel) (r : Registers) (word tick : ℕ) → RegistersFit r → Unlisted k.threads k.current_thread → Parts k
     → Clear (arbitrate_by kind k r word tick).kernel → Parts (arbitrate_by kind k r word tick).kernel
-by_parts NoArbitration k r word tick f u p c = p
-by_parts (SomeArbitration kind) k r word tick f u p c = served-parts kind k r word tick (eqb (resolved k r.r0).object.0 0) refl f u p c
+by_parts None k r word tick f u p c = p
+by_parts (Some kind) k r word tick f u p c = served-parts kind k r word tick (eqb (resolved k r.r0).object.0 0) refl f u p c
 
-by_answers : (kind : ArbitrationOption) (k : Kernel) (r : Registers) (word tick : ℕ) → Accepted (arbitrate_by kind k r word tick).answer
-by_answers NoArbitration k r word tick = inr (omega arith, omega arith)
-by_answers (SomeArbitration kind) k r word tick = served-answers kind k r word tick (eqb (resolved k r.r0).object.0 0)
+by_answers : (kind : Option ArbitrationType) (k : Kernel) (r : Registers) (word tick : ℕ) → Accepted (arbitrate_by kind k r word tick).answer
+by_answers None k r word tick = inr (omega arith, omega arith)
+by_answers (Some kind) k r word tick = served-answers kind k r word tick (eqb (resolved k r.r0).object.0 0)
 
 pub arbitrate_address-sound : (k : Kernel) (r : Registers) (word tick : ℕ) → RegistersFit r → runs? k ≡ true → Sound k → Clear (arbitrate_address k r word tick).kernel
     → Sound (arbitrate_address k r word tick).kernel

@@ -1,11 +1,9 @@
 -- A wait that a guest call begins, and what a satisfied one takes.
-use Rattle.std.specs.Prelude.{◌≡◌, refl, Bool, false, List, [], ◌∷◌, ℕ, ◌≤◌, eqb, length, set, take}
+use Rattle.units.specs.declared.Ticks.{Ticks}
+use Rattle.std.specs.Prelude.{◌≡◌, refl, Bool, false, List, [], ◌∷◌, ℕ, ◌≤◌, eqb, length, set, take, Option, Some, None}
 use Rattle.std.proofs.Math.Path.{sym}
 use Rattle.std.proofs.Common.{◌∙◌}
 use Rattle.units.specs.declared.ObjectId.{ObjectId}
-use Rattle.types.specs.declared.thread.ThreadOption.{ThreadOption}
-use Rattle.types.specs.declared.thread.ThreadOption.TheVariants.{NoThread, SomeThread}
-use Rattle.types.specs.declared.thread.TickOption.{TickOption}
 use Rattle.types.specs.declared.thread.WaitSyscall.{WaitSyscall}
 use Rattle.types.specs.declared.thread.Thread.{Thread}
 use Rattle.types.specs.declared.object.ObjectStore.{ObjectStore}
@@ -51,7 +49,7 @@ acquires-full [] s w = refl
 acquires-full (o ∷ os) s w = acquires-full os (acquire s o w) w ∙ acquire-full s o w
 
 -- ---- the call is noted: nothing that a sound state asks of a thread changes
-noted-parts : (k : Kernel) (p : Parts k) (c : ℕ) → Live k.threads c → (call : WaitSyscall)
+noted-parts : (k : Kernel) (p : Parts k) (c : ℕ) → Live k.threads c → (call : Option WaitSyscall)
     → Parts (with_threads k (set k.threads c (with_result (thread_at k.threads c) (thread_at k.threads c).wait_result call)) k.objects)
 noted-parts k p c live call =
     let old : Thread = thread_at k.threads c in
@@ -66,21 +64,21 @@ noted-parts k p c live call =
     }) (λ o z. refl)
 
 -- ---- `begin_wait` leaves the current thread current, and the findings alone
-begin-current : (o : ThreadOption) (k : Kernel) (l : List ObjectId) (n : ℕ) (all : Bool) (time : TickOption) (tick : ℕ) → (begin_wait_as o k l n all time tick).current_thread ≡ k.current_thread
-begin-current NoThread k l n all time tick = refl
-begin-current (SomeThread c) k l n all time tick = refl
+begin-current : (o : Option ℕ) (k : Kernel) (l : List ObjectId) (n : ℕ) (all : Bool) (time : Option Ticks) (tick : ℕ) → (begin_wait_as o k l n all time tick).current_thread ≡ k.current_thread
+begin-current None k l n all time tick = refl
+begin-current (Some c) k l n all time tick = refl
 
-begin-full : (o : ThreadOption) (k : Kernel) (l : List ObjectId) (n : ℕ) (all : Bool) (time : TickOption) (tick : ℕ) → (begin_wait_as o k l n all time tick).objects.full ≡ k.objects.full
-begin-full NoThread k l n all time tick = refl
-begin-full (SomeThread c) k l n all time tick = add_refs-full (take n (ids l)) k.objects
+begin-full : (o : Option ℕ) (k : Kernel) (l : List ObjectId) (n : ℕ) (all : Bool) (time : Option Ticks) (tick : ℕ) → (begin_wait_as o k l n all time tick).objects.full ≡ k.objects.full
+begin-full None k l n all time tick = refl
+begin-full (Some c) k l n all time tick = add_refs-full (take n (ids l)) k.objects
 
-begin-overflow : (o : ThreadOption) (k : Kernel) (l : List ObjectId) (n : ℕ) (all : Bool) (time : TickOption) (tick : ℕ)
+begin-overflow : (o : Option ℕ) (k : Kernel) (l : List ObjectId) (n : ℕ) (all : Bool) (time : Option Ticks) (tick : ℕ)
     → (begin_wait_as o k l n all time tick).objects.overflow ≡ k.objects.overflow
-begin-overflow NoThread k l n all time tick = refl
-begin-overflow (SomeThread c) k l n all time tick = add_refs-overflow (take n (ids l)) k.objects
+begin-overflow None k l n all time tick = refl
+begin-overflow (Some c) k l n all time tick = add_refs-overflow (take n (ids l)) k.objects
 
-module _ (k : Kernel) (c : ℕ) (os : List ℕ) (all : Bool) (nanos tick : ℕ) (call : WaitSyscall) where
-  -- ---- `begin_wait` for a list of at most 8 objects with names, and the call noted
+module _ (k : Kernel) (c : ℕ) (os : List ℕ) (all : Bool) (nanos tick : ℕ) (call : Option WaitSyscall) where
+  -- ---- `begin_wait` for a list of at most 12 objects with names, and the call noted
   on-sticks : Sticks k.objects (wait_on k c os all nanos tick call).kernel.objects
   unfolding begin_wait
   on-sticks = record {
@@ -92,7 +90,7 @@ module _ (k : Kernel) (c : ℕ) (os : List ℕ) (all : Bool) (nanos tick : ℕ) 
   unless-sticks =
       pick-both (λ (v : Served). Sticks k.objects v.kernel.objects) (eqb nanos 0) (answers timeout k) (wait_on k c os all nanos tick call) (sticks-same k.objects) on-sticks
 
-  module _ (p : Parts k) (e : k.current_thread ≡ SomeThread c) (u : Unlisted k.threads k.current_thread) (few : length os ≤ wait_list) (known : Known k.objects (names k.handles k.threads) os) where
+  module _ (p : Parts k) (e : k.current_thread ≡ Some c) (u : Unlisted k.threads k.current_thread) (few : length os ≤ wait_list) (known : Known k.objects (names k.handles k.threads) os) where
     on-parts : Parts (wait_on k c os all nanos tick call).kernel
     unfolding begin_wait
     on-parts =

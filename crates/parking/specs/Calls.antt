@@ -17,7 +17,7 @@ use Rattle.calling.specs.Handles.{close_handle-sound, close_handle-answers, dupl
 use Rattle.parking.specs.Arbitrates.{arbitrate_address-sound, arbitrate_address-answers}
 use Rattle.parking.specs.Waits.{wait_synchronization1-sound, wait_synchronization1-answers, wait_synchronization_n-sound, wait_synchronization_n-answers}
 
--- 0x25 is given at most 8 handles, by question 5
+-- 0x25 is given at most 12 handles, by question 5
 module _ (number : ℕ) (k : Kernel) (r : Registers) (words : List ℕ) (tick : ℕ) where
   pub call-sound : (eqb number 0x25 ≡ true → length words ≤ wait_list) → RegistersFit r → tick < 18446744073709551616 → runs? k ≡ true → Sound k
       → Clear (call number k r words tick).kernel → Sound (call number k r words tick).kernel

@@ -1,11 +1,10 @@
 -- Resolving a list of handles keeps a state sound, unless the store is full: each object found keeps its name while the next are resolved.
-use Rattle.std.specs.Prelude.{◌≡◌, refl, Bool, true, false, eqb, length}
+use Rattle.std.specs.Prelude.{◌≡◌, refl, Bool, true, false, eqb, length, Option}
 use Rattle.std.proofs.Common.{ap, sym, subst, ◌∙◌, arith}
 use mathlib.Core.List.{List, [], ◌∷◌}
 use Prim.Native.Nat.{ℕ, zero, suc, ◌≤◌, ◌<◌}
 use Rattle.std.proofs.lemmas.Bool.{eqb-false}
 use Rattle.laws.specs.Logic.{pick, or-false, false-true}
-use Rattle.types.specs.declared.thread.ThreadOption.{ThreadOption}
 use Rattle.types.specs.declared.object.HandleTable.{HandleTable}
 use Rattle.types.specs.declared.object.ObjectStore.{ObjectStore}
 use Rattle.types.specs.declared.kernel.Kernel.{Kernel}
@@ -26,7 +25,7 @@ use Rattle.calling.specs.Resolves.{resolve-overflow, resolved-found, resolved-pa
 use Rattle.svc.specs.Call.{with_objects, resolved}
 use Rattle.svc.specs.Waits.{resolve_all, resolve_store}
 
-pub all-length : (c : ThreadOption) (t : HandleTable) (hs : List ℕ) (s : ObjectStore) → length (resolve_all c t s hs) ≡ length hs
+pub all-length : (c : Option ℕ) (t : HandleTable) (hs : List ℕ) (s : ObjectStore) → length (resolve_all c t s hs) ≡ length hs
 unfolding resolve_all
 all-length c t [] s = refl
 all-length c t (h ∷ hs) s = ap suc (all-length c t hs (resolve c t s h).store)
@@ -36,7 +35,7 @@ store-full_if : (q : Bool) (s r : ObjectStore) → (r.full ≡ false → s.full 
 store-full_if true s r h e = e
 store-full_if false s r h e = h e
 
-pub store-full : (c : ThreadOption) (t : HandleTable) (hs : List ℕ) (s : ObjectStore) → (resolve_store c t s hs).full ≡ false → s.full ≡ false
+pub store-full : (c : Option ℕ) (t : HandleTable) (hs : List ℕ) (s : ObjectStore) → (resolve_store c t s hs).full ≡ false → s.full ≡ false
 unfolding resolve_store
 store-full c t [] s e = e
 store-full c t (h ∷ hs) s e =
@@ -47,7 +46,7 @@ store-overflow_if : (q : Bool) (s r : ObjectStore) (b : Bool) → s.overflow ≡
 store-overflow_if true s r b e f = e
 store-overflow_if false s r b e f = f
 
-pub store-overflow : (c : ThreadOption) (t : HandleTable) (hs : List ℕ) (s : ObjectStore) → (resolve_store c t s hs).overflow ≡ s.overflow
+pub store-overflow : (c : Option ℕ) (t : HandleTable) (hs : List ℕ) (s : ObjectStore) → (resolve_store c t s hs).overflow ≡ s.overflow
 unfolding resolve_store
 store-overflow c t [] s = refl
 store-overflow c t (h ∷ hs) s =
@@ -99,7 +98,7 @@ all_found (h ∷ hs) k p e =
     found_if k p h (resolve_store k.current_thread k.handles s hs) (resolve_all k.current_thread k.handles s hs) (eqb (resolved k h).object.0 0) refl e
     (store-full k.current_thread k.handles hs s) (λ b c. all_found hs (with_objects k s) (resolved-parts k p h b) c)
 
--- ---- as a wait takes them: in 8 places, the unused ones 0
+-- ---- as a wait takes them: in m places, the unused ones 0
 padded-length : (m : ℕ) (os : List ℕ) → length (padded m os) ≡ m
 unfolding padded
 padded-length zero os = refl

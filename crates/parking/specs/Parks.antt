@@ -1,10 +1,8 @@
 -- The current thread parks at an address: a record more, and a thread without a list in another status.
-use Rattle.std.specs.Prelude.{◌≡◌, refl, Bool, true, false, List, ℕ, ◌<◌, eqb, ltb, set}
+use Rattle.units.specs.declared.Ticks.{Ticks}
+use Rattle.std.specs.Prelude.{◌≡◌, refl, Bool, true, false, List, ℕ, ◌<◌, eqb, ltb, set, Option, Some, None}
 use Rattle.std.proofs.Common.{◌∙◌, arith}
 use Rattle.laws.specs.Logic.{pick, ◌and◌, ◌or◌}
-use Rattle.types.specs.declared.thread.ThreadOption.{ThreadOption}
-use Rattle.types.specs.declared.thread.ThreadOption.TheVariants.{NoThread, SomeThread}
-use Rattle.types.specs.declared.thread.TickOption.{TickOption}
 use Rattle.types.specs.declared.thread.Thread.{Thread}
 use Rattle.types.specs.declared.sync.ArbitrationType.{ArbitrationType}
 use Rattle.types.specs.declared.object.ObjectStore.{ObjectStore}
@@ -28,7 +26,6 @@ use Rattle.passing.specs.Signal.{live_in, live-word}
 use Rattle.passing.specs.Threads.{live-used, live-ok, live-widths, Turned, place-parts, live-after}
 use Rattle.passing.specs.Switch.{current-live}
 use Rattle.passing.specs.Sleeps.{Unlisted, unlisted_zeros}
-use Rattle.svc.specs.declared.WordOption.TheVariants.{NoWord, SomeWord}
 use Rattle.svc.specs.declared.Served.{Served}
 use Rattle.svc.specs.Call.{done, with_over}
 use Rattle.svc.specs.Sync.{biased}
@@ -53,8 +50,8 @@ push-store n ts f s o t a l wt wa e h = record {
 }
 
 -- ---- the thread parks
-module _ (k : Kernel) (p : Parts k) (o a : ℕ) (small : Word a) (time : TickOption) (tick : ℕ) where
-  module _ (c : ℕ) (live : Live k.threads c) (none : Unlisted k.threads (SomeThread c)) (e : (push k.objects o c a).full ≡ false) where
+module _ (k : Kernel) (p : Parts k) (o a : ℕ) (small : Word a) (time : Option Ticks) (tick : ℕ) where
+  module _ (c : ℕ) (live : Live k.threads c) (none : Unlisted k.threads (Some c)) (e : (push k.objects o c a).full ≡ false) where
     abbrev waiter : Thread
     waiter = parked (thread_at k.threads c) a (wake_tick time tick)
 
@@ -72,7 +69,7 @@ module _ (k : Kernel) (p : Parts k) (o a : ℕ) (small : Word a) (time : TickOpt
           widths = record { own = w.own; wait = record { count = z4; address = small; wakeup = wake-fits time tick; ids = none_fit; size = refl }; index = w.index; since = w.since };
         }
 
-    parked-parts : Parts (park_as (SomeThread c) k o a time tick)
+    parked-parts : Parts (park_as (Some c) k o a time tick)
     parked-parts =
         let n : ℕ = k.thread_count in
         let ts : List Thread = k.threads in
@@ -82,19 +79,19 @@ module _ (k : Kernel) (p : Parts k) (o a : ℕ) (small : Word a) (time : TickOpt
         (names_same k.handles ts c waiter (live_in ts c live) (unlisted_zeros k p c live none) no-list)
         (push-store n ts f k.objects o c a (live-used k p c live) (live-word k p c live) small e (parts-store k p)))
 
-  park-as : (c : ThreadOption) → k.current_thread ≡ c → Unlisted k.threads c → (park_as c k o a time tick).objects.full ≡ false → Parts (park_as c k o a time tick)
-  park-as NoThread q u e = p
-  park-as (SomeThread c) q u e = parked-parts c (current-live k p c q) u e
+  park-as : (c : Option ℕ) → k.current_thread ≡ c → Unlisted k.threads c → (park_as c k o a time tick).objects.full ≡ false → Parts (park_as c k o a time tick)
+  park-as None q u e = p
+  park-as (Some c) q u e = parked-parts c (current-live k p c q) u e
 
   pub park-parts : Unlisted k.threads k.current_thread → (park k o a time tick).objects.full ≡ false → Parts (park k o a time tick)
   park-parts u e = park-as k.current_thread refl u e
 
 -- the finding sticks
-park-full_as : (c : ThreadOption) (k : Kernel) (o a : ℕ) (time : TickOption) (tick : ℕ) → (park_as c k o a time tick).objects.full ≡ false → k.objects.full ≡ false
-park-full_as NoThread k o a time tick e = e
-park-full_as (SomeThread c) k o a time tick e = push-full k.objects o c a e
+park-full_as : (c : Option ℕ) (k : Kernel) (o a : ℕ) (time : Option Ticks) (tick : ℕ) → (park_as c k o a time tick).objects.full ≡ false → k.objects.full ≡ false
+park-full_as None k o a time tick e = e
+park-full_as (Some c) k o a time tick e = push-full k.objects o c a e
 
-pub park-full : (k : Kernel) (o a : ℕ) (time : TickOption) (tick : ℕ) → (park k o a time tick).objects.full ≡ false → k.objects.full ≡ false
+pub park-full : (k : Kernel) (o a : ℕ) (time : Option Ticks) (tick : ℕ) → (park k o a time tick).objects.full ≡ false → k.objects.full ≡ false
 park-full k o a time tick e = park-full_as k.current_thread k o a time tick e
 
 -- ---- kinds 1 to 4
@@ -105,9 +102,9 @@ module _ (kind : ArbitrationType) (k : Kernel) (o a value word nanos tick : ℕ)
       (record {
         kernel = with_over (park k o a (park_time kind nanos) tick) (k.overflow or (decrements kind and eqb word 2147483648));
         answer = 0;
-        r0 = SomeWord 0;
-        r1 = NoWord;
-        word = pick (decrements kind) (SomeWord (one_less word)) NoWord;
+        r0 = Some 0;
+        r1 = None;
+        word = pick (decrements kind) (Some (one_less word)) None;
       })
       (done k)
 

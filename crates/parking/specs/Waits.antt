@@ -1,10 +1,8 @@
 -- `wait_synchronization1` and `wait_synchronization_n` keep a state sound.
-use Rattle.std.specs.Prelude.{◌≡◌, refl, Bool, true, false, not, List, [], ◌∷◌, ℕ, ◌+◌, ◌≤◌, ◌<◌, eqb, length, get_or}
+use Rattle.std.specs.Prelude.{◌≡◌, refl, Bool, true, false, not, List, [], ◌∷◌, ℕ, ◌+◌, ◌≤◌, ◌<◌, eqb, length, get_or, Option, Some, None}
 use Rattle.std.proofs.Common.{sym, ◌∙◌, inl, inr, arith}
 use Rattle.std.proofs.lemmas.Bool.{eqb-false}
 use Rattle.laws.specs.Logic.{pick}
-use Rattle.types.specs.declared.thread.ThreadOption.{ThreadOption}
-use Rattle.types.specs.declared.thread.ThreadOption.TheVariants.{NoThread, SomeThread}
 use Rattle.types.specs.declared.thread.WaitSyscall.{WaitSyscall}
 use Rattle.types.specs.declared.thread.WaitSyscall.TheVariants.{WaitSynchronization1, WaitSynchronizationN}
 use Rattle.types.specs.declared.object.ObjectStore.{ObjectStore}
@@ -17,8 +15,6 @@ use Rattle.kernel.specs.NextEvent.{contains}
 use Rattle.soundness.specs.Slots.{pick-both}
 use Rattle.soundness.specs.Objects.{Known}
 use Rattle.soundness.specs.Whole.{Parts, sound-parts, parts-sound}
-use Rattle.pass.specs.declared.IndexOption.{IndexOption}
-use Rattle.pass.specs.declared.IndexOption.TheVariants.{NoIndex, SomeIndex}
 use Rattle.pass.specs.Signal.{is_signaled, acquire, acquires}
 use Rattle.pass.specs.Waits.{satisfied_at}
 use Rattle.passing.specs.Signal.{acquire-sticks, acquires-sticks, acquire-parts, acquires-parts}
@@ -37,7 +33,7 @@ use Rattle.calling.specs.Threads.{runs-current}
 use Rattle.parking.specs.Lists.{all-length, store-overflow, AllFound, all_found}
 use Rattle.parking.specs.Begins.{Sticks, sticks-same, acquire-full, acquires-full, unless-sticks, unless-parts}
 
-unless-answers : (k : Kernel) (c : ℕ) (os : List ℕ) (all : Bool) (nanos tick : ℕ) (call : WaitSyscall) → Accepted (wait_unless k c os all nanos tick call).answer
+unless-answers : (k : Kernel) (c : ℕ) (os : List ℕ) (all : Bool) (nanos tick : ℕ) (call : Option WaitSyscall) → Accepted (wait_unless k c os all nanos tick call).answer
 unless-answers k c os all nanos tick call = pick-both (λ (v : Served). Accepted v.answer) (eqb nanos 0) (answers timeout k) (wait_on k c os all nanos tick call) (inr (omega arith, omega arith)) (inl refl)
 
 -- ---- what one object's acquisition leaves
@@ -49,28 +45,28 @@ acquires-down s os c = record { full = λ e. sym (acquires-full os s c) ∙ e; o
 
 -- ---- one object
 module _ (k : Kernel) (o nanos tick : ℕ) where
-  one-sticks : (c : ThreadOption) → Sticks k.objects (wait1_as c k o nanos tick).kernel.objects
-  one-sticks NoThread = sticks-same k.objects
-  one-sticks (SomeThread c) =
+  one-sticks : (c : Option ℕ) → Sticks k.objects (wait1_as c k o nanos tick).kernel.objects
+  one-sticks None = sticks-same k.objects
+  one-sticks (Some c) =
       pick-both (λ (v : Served). Sticks k.objects v.kernel.objects) (is_signaled k.threads (object_at k.objects o) c) (done (with_objects k (acquire k.objects o c)))
-      (wait_unless k c (o ∷ []) false nanos tick WaitSynchronization1) (acquire-down k.objects o c) (unless-sticks k c (o ∷ []) false nanos tick WaitSynchronization1)
+      (wait_unless k c (o ∷ []) false nanos tick (Some WaitSynchronization1)) (acquire-down k.objects o c) (unless-sticks k c (o ∷ []) false nanos tick (Some WaitSynchronization1))
 
-  one-answers : (c : ThreadOption) → Accepted (wait1_as c k o nanos tick).answer
-  one-answers NoThread = inl refl
-  one-answers (SomeThread c) =
+  one-answers : (c : Option ℕ) → Accepted (wait1_as c k o nanos tick).answer
+  one-answers None = inl refl
+  one-answers (Some c) =
       pick-both (λ (v : Served). Accepted v.answer) (is_signaled k.threads (object_at k.objects o) c) (done (with_objects k (acquire k.objects o c)))
-      (wait_unless k c (o ∷ []) false nanos tick WaitSynchronization1) (inl refl) (unless-answers k c (o ∷ []) false nanos tick WaitSynchronization1)
+      (wait_unless k c (o ∷ []) false nanos tick (Some WaitSynchronization1)) (inl refl) (unless-answers k c (o ∷ []) false nanos tick (Some WaitSynchronization1))
 
   module _ (p : Parts k) (u : Unlisted k.threads k.current_thread) (z : 0 < o) (named : 0 < names k.handles k.threads o + kept_names k.objects o) where
-    one_if : (c : ℕ) → k.current_thread ≡ SomeThread c → (b : Bool)
-        → (pick b (done (with_objects k (acquire k.objects o c))) (wait_unless k c (o ∷ []) false nanos tick WaitSynchronization1)).kernel.objects.overflow ≡ false
-        → Parts (pick b (done (with_objects k (acquire k.objects o c))) (wait_unless k c (o ∷ []) false nanos tick WaitSynchronization1)).kernel
+    one_if : (c : ℕ) → k.current_thread ≡ Some c → (b : Bool)
+        → (pick b (done (with_objects k (acquire k.objects o c))) (wait_unless k c (o ∷ []) false nanos tick (Some WaitSynchronization1))).kernel.objects.overflow ≡ false
+        → Parts (pick b (done (with_objects k (acquire k.objects o c))) (wait_unless k c (o ∷ []) false nanos tick (Some WaitSynchronization1))).kernel
     one_if c q true e = acquire-parts k p o c (current-live k p c q) e
-    one_if c q false e = unless-parts k c (o ∷ []) false nanos tick WaitSynchronization1 p q u (omega arith) (z, (named, tt))
+    one_if c q false e = unless-parts k c (o ∷ []) false nanos tick (Some WaitSynchronization1) p q u (omega arith) (z, (named, tt))
 
-    one-parts : (c : ThreadOption) → k.current_thread ≡ c → (wait1_as c k o nanos tick).kernel.objects.overflow ≡ false → Parts (wait1_as c k o nanos tick).kernel
-    one-parts NoThread q e = p
-    one-parts (SomeThread c) q e = one_if c q (is_signaled k.threads (object_at k.objects o) c) e
+    one-parts : (c : Option ℕ) → k.current_thread ≡ c → (wait1_as c k o nanos tick).kernel.objects.overflow ≡ false → Parts (wait1_as c k o nanos tick).kernel
+    one-parts None q e = p
+    one-parts (Some c) q e = one_if c q (is_signaled k.threads (object_at k.objects o) c) e
 
 -- the handle is resolved; an unknown one is refused
 module _ (k : Kernel) (h nanos tick : ℕ) where
@@ -119,36 +115,36 @@ wait_synchronization1-answers k r tick =
 
 -- ---- a list of objects
 module _ (k : Kernel) (os : List ℕ) (all : Bool) (nanos tick : ℕ) where
-  take-sticks : (found : IndexOption) (c : ℕ) → Sticks k.objects (take_at found k c os all nanos tick).kernel.objects
-  take-sticks NoIndex c = unless-sticks k c os all nanos tick WaitSynchronizationN
-  take-sticks (SomeIndex i) c =
+  take-sticks : (found : Option ℕ) (c : ℕ) → Sticks k.objects (take_at found k c os all nanos tick).kernel.objects
+  take-sticks None c = unless-sticks k c os all nanos tick (Some WaitSynchronizationN)
+  take-sticks (Some i) c =
       pick-both (Sticks k.objects) all (acquires k.objects os c) (acquire k.objects (get_or os i 0) c) (acquires-down k.objects os c) (acquire-down k.objects (get_or os i 0) c)
 
-  take-answers : (found : IndexOption) (c : ℕ) → Accepted (take_at found k c os all nanos tick).answer
-  take-answers NoIndex c = unless-answers k c os all nanos tick WaitSynchronizationN
-  take-answers (SomeIndex i) c = inl refl
+  take-answers : (found : Option ℕ) (c : ℕ) → Accepted (take_at found k c os all nanos tick).answer
+  take-answers None c = unless-answers k c os all nanos tick (Some WaitSynchronizationN)
+  take-answers (Some i) c = inl refl
 
-  many-sticks : (c : ThreadOption) → Sticks k.objects (wait_nas c k os all nanos tick).kernel.objects
-  many-sticks NoThread = sticks-same k.objects
-  many-sticks (SomeThread c) = take-sticks (satisfied_at k.threads k.objects c all os) c
+  many-sticks : (c : Option ℕ) → Sticks k.objects (wait_nas c k os all nanos tick).kernel.objects
+  many-sticks None = sticks-same k.objects
+  many-sticks (Some c) = take-sticks (satisfied_at k.threads k.objects c all os) c
 
-  many-answers : (c : ThreadOption) → Accepted (wait_nas c k os all nanos tick).answer
-  many-answers NoThread = inl refl
-  many-answers (SomeThread c) = take-answers (satisfied_at k.threads k.objects c all os) c
+  many-answers : (c : Option ℕ) → Accepted (wait_nas c k os all nanos tick).answer
+  many-answers None = inl refl
+  many-answers (Some c) = take-answers (satisfied_at k.threads k.objects c all os) c
 
   module _ (p : Parts k) (u : Unlisted k.threads k.current_thread) (few : length os ≤ wait_list) (known : Known k.objects (names k.handles k.threads) os) where
-    taken-parts : (c i : ℕ) → k.current_thread ≡ SomeThread c → (b : Bool) → (pick b (acquires k.objects os c) (acquire k.objects (get_or os i 0) c)).overflow ≡ false
+    taken-parts : (c i : ℕ) → k.current_thread ≡ Some c → (b : Bool) → (pick b (acquires k.objects os c) (acquire k.objects (get_or os i 0) c)).overflow ≡ false
         → Parts (with_objects k (pick b (acquires k.objects os c) (acquire k.objects (get_or os i 0) c)))
     taken-parts c i q true e = acquires-parts k p os c (current-live k p c q) e
     taken-parts c i q false e = acquire-parts k p (get_or os i 0) c (current-live k p c q) e
 
-    take-parts : (found : IndexOption) (c : ℕ) → k.current_thread ≡ SomeThread c → (take_at found k c os all nanos tick).kernel.objects.overflow ≡ false → Parts (take_at found k c os all nanos tick).kernel
-    take-parts NoIndex c q e = unless-parts k c os all nanos tick WaitSynchronizationN p q u few known
-    take-parts (SomeIndex i) c q e = taken-parts c i q all e
+    take-parts : (found : Option ℕ) (c : ℕ) → k.current_thread ≡ Some c → (take_at found k c os all nanos tick).kernel.objects.overflow ≡ false → Parts (take_at found k c os all nanos tick).kernel
+    take-parts None c q e = unless-parts k c os all nanos tick (Some WaitSynchronizationN) p q u few known
+    take-parts (Some i) c q e = taken-parts c i q all e
 
-    many-parts : (c : ThreadOption) → k.current_thread ≡ c → (wait_nas c k os all nanos tick).kernel.objects.overflow ≡ false → Parts (wait_nas c k os all nanos tick).kernel
-    many-parts NoThread q e = p
-    many-parts (SomeThread c) q e = take-parts (satisfied_at k.threads k.objects c all os) c q e
+    many-parts : (c : Option ℕ) → k.current_thread ≡ c → (wait_nas c k os all nanos tick).kernel.objects.overflow ≡ false → Parts (wait_nas c k os all nanos tick).kernel
+    many-parts None q e = p
+    many-parts (Some c) q e = take-parts (satisfied_at k.threads k.objects c all os) c q e
 
 -- the handles are resolved; if one is unknown the call is refused
 module _ (k : Kernel) (hs : List ℕ) (all : Bool) (nanos tick : ℕ) where

@@ -1,9 +1,7 @@
 -- `schedule` of mod.rs: a pass.
-use Rattle.std.specs.Prelude.{Bool, true, false, not, List, ℕ, ◌-◌, eqb, ltb, set}
+use Rattle.std.specs.Prelude.{Bool, true, false, not, List, ℕ, ◌-◌, eqb, ltb, set, Option, Some, None}
 use Rattle.laws.specs.Logic.{pick, ◌and◌}
 use Rattle.types.specs.declared.thread.ThreadStatus.TheVariants.{Ready, Running}
-use Rattle.types.specs.declared.thread.ThreadOption.{ThreadOption}
-use Rattle.types.specs.declared.thread.ThreadOption.TheVariants.{NoThread, SomeThread}
 use Rattle.types.specs.declared.thread.Thread.{Thread}
 use Rattle.types.specs.declared.object.ObjectStore.{ObjectStore}
 use Rattle.types.specs.declared.kernel.Kernel.{Kernel}
@@ -38,17 +36,17 @@ with_run t waited since = record {
 }
 
 -- the current thread has waited if it cannot run, after all waits were tried
-abbrev pub mark_waited : List Thread → ThreadOption → List Thread
-mark_waited ts NoThread = ts
-mark_waited ts (SomeThread c) = pick (is_runnable (thread_at ts c).status) ts (set ts c (with_run (thread_at ts c) true (thread_at ts c).running_since.0))
+abbrev pub mark_waited : List Thread → Option ℕ → List Thread
+mark_waited ts None = ts
+mark_waited ts (Some c) = pick (is_runnable (thread_at ts c).status) ts (set ts c (with_run (thread_at ts c) true (thread_at ts c).running_since.0))
 
 -- a thread that has waited begins to run
 abbrev pub begun : Thread → ℕ → Thread
 begun t tick = pick t.waited (with_run t false tick) t
 
-abbrev pub begin_run : List Thread → ThreadOption → ℕ → List Thread
-begin_run ts NoThread tick = ts
-begin_run ts (SomeThread c) tick = set ts c (begun (thread_at ts c) tick)
+abbrev pub begin_run : List Thread → Option ℕ → ℕ → List Thread
+begin_run ts None tick = ts
+begin_run ts (Some c) tick = set ts c (begun (thread_at ts c) tick)
 
 -- four frames; the difference is 0 for a tick before
 abbrev pub starvation_ticks : ℕ
@@ -58,20 +56,20 @@ abbrev pub starves : Thread → ℕ → Bool
 starves t tick = ltb starvation_ticks (tick - t.running_since.0)
 
 -- judged for the first pick, not for the current thread
-abbrev pub starving : List Thread → ThreadOption → ℕ → Bool
-starving ts NoThread tick = false
-starving ts (SomeThread c) tick = starves (thread_at ts c) tick
+abbrev pub starving : List Thread → Option ℕ → ℕ → Bool
+starving ts None tick = false
+starving ts (Some c) tick = starves (thread_at ts c) tick
 
 -- each starving pass flips the flag; no other pass sets it back
 abbrev pub flipped : Bool → Bool → Bool
 flipped starve relief = pick starve (not relief) relief
 
 -- when it turns on, another thread runs instead, if there is one
-abbrev pub stand_in : List Thread → ThreadOption → ThreadOption
-stand_in ts NoThread = NoThread
-stand_in ts (SomeThread c) = or_else (pick_other ts c (thread_at ts c).priority) (SomeThread c)
+abbrev pub stand_in : List Thread → Option ℕ → Option ℕ
+stand_in ts None = None
+stand_in ts (Some c) = or_else (pick_other ts c (thread_at ts c).priority) (Some c)
 
-abbrev pub chosen : List Thread → ThreadOption → Bool → Bool → ThreadOption
+abbrev pub chosen : List Thread → Option ℕ → Bool → Bool → Option ℕ
 chosen ts first starve relief = pick (starve and not relief) (stand_in ts first) first
 
 -- ---- the switch
@@ -79,18 +77,18 @@ chosen ts first starve relief = pick (starve and not relief) (stand_in ts first)
 abbrev pub leaves : Thread → Thread
 leaves t = pick (is_running t.status) (with_status t Ready) t
 
-abbrev pub leave_core : List Thread → ThreadOption → List Thread
-leave_core ts NoThread = ts
-leave_core ts (SomeThread c) = set ts c (leaves (thread_at ts c))
+abbrev pub leave_core : List Thread → Option ℕ → List Thread
+leave_core ts None = ts
+leave_core ts (Some c) = set ts c (leaves (thread_at ts c))
 
 abbrev pub take_core : List Thread → ℕ → List Thread
 take_core ts n = set ts n (with_status (thread_at ts n) Running)
 
-abbrev pub is_none : ThreadOption → Bool
-is_none NoThread = true
-is_none (SomeThread t) = false
+abbrev pub is_none : Option ℕ → Bool
+is_none None = true
+is_none (Some t) = false
 
-abbrev pub scheduled : Kernel → ObjectStore → List Thread → ThreadOption → Bool → Kernel
+abbrev pub scheduled : Kernel → ObjectStore → List Thread → Option ℕ → Bool → Kernel
 scheduled k s ts next relief = record {
   status_word = k.status_word;
   objects = s;
@@ -107,24 +105,24 @@ scheduled k s ts next relief = record {
 }
 
 -- the thread that was current, and the one that is to run
-abbrev pub switch_as : Kernel → ObjectStore → List Thread → Bool → ThreadOption → ThreadOption → Passed
+abbrev pub switch_as : Kernel → ObjectStore → List Thread → Bool → Option ℕ → Option ℕ → Passed
 -- nobody ran and nobody can: nothing switches
-switch_as k s ts relief NoThread NoThread = record { kernel = scheduled k s ts NoThread relief; saved = NoThread; restored = NoThread; switched = false }
+switch_as k s ts relief None None = record { kernel = scheduled k s ts None relief; saved = None; restored = None; switched = false }
 -- everything is blocked: the context is saved
-switch_as k s ts relief (SomeThread c) NoThread = record { kernel = scheduled k s (leave_core ts (SomeThread c)) NoThread relief; saved = SomeThread c; restored = NoThread; switched = true }
-switch_as k s ts relief NoThread (SomeThread n) = record { kernel = scheduled k s (take_core ts n) (SomeThread n) relief; saved = NoThread; restored = SomeThread n; switched = true }
+switch_as k s ts relief (Some c) None = record { kernel = scheduled k s (leave_core ts (Some c)) None relief; saved = Some c; restored = None; switched = true }
+switch_as k s ts relief None (Some n) = record { kernel = scheduled k s (take_core ts n) (Some n) relief; saved = None; restored = Some n; switched = true }
 -- a thread that stays current is neither saved nor restored
-switch_as k s ts relief (SomeThread c) (SomeThread n) =
+switch_as k s ts relief (Some c) (Some n) =
     pick (eqb c n)
-    (record { kernel = scheduled k s (take_core ts n) (SomeThread n) relief; saved = NoThread; restored = NoThread; switched = false })
-    (record { kernel = scheduled k s (take_core (leave_core ts (SomeThread c)) n) (SomeThread n) relief; saved = SomeThread c; restored = SomeThread n; switched = true })
+    (record { kernel = scheduled k s (take_core ts n) (Some n) relief; saved = None; restored = None; switched = false })
+    (record { kernel = scheduled k s (take_core (leave_core ts (Some c)) n) (Some n) relief; saved = Some c; restored = Some n; switched = true })
 
 -- ---- the pass, after the tries: choose
-abbrev pub choose_from : Kernel → ObjectStore → List Thread → ThreadOption → ℕ → Passed
+abbrev pub choose_from : Kernel → ObjectStore → List Thread → Option ℕ → ℕ → Passed
 choose_from k s ts first tick =
     let begun : List Thread = begin_run ts first tick in
     let starve : Bool = starving begun first tick in
-    let next : ThreadOption = chosen begun first starve k.relief in
+    let next : (Option ℕ) = chosen begun first starve k.relief in
     switch_as k s (begin_run begun next tick) (flipped starve k.relief) k.current_thread next
 
 abbrev pub choose : Kernel → Waits → ℕ → Passed

@@ -1,8 +1,6 @@
 -- `is_signaled`, `acquire`, `signal_event` and `clear_event` of mod.rs, and the end of a pulse.
-use Rattle.std.specs.Prelude.{Bool, true, false, not, List, [], ◌∷◌, map, ℕ, ◌+◌, ◌%◌, eqb, ltb}
+use Rattle.std.specs.Prelude.{Bool, true, false, not, List, [], ◌∷◌, map, ℕ, ◌+◌, ◌%◌, eqb, ltb, Option, Some, None}
 use Rattle.laws.specs.Logic.{pick, ◌and◌, ◌or◌}
-use Rattle.types.specs.declared.thread.ThreadOption.{ThreadOption}
-use Rattle.types.specs.declared.thread.ThreadOption.TheVariants.{NoThread, SomeThread}
 use Rattle.types.specs.declared.thread.ThreadStatus.{ThreadStatus}
 use Rattle.types.specs.declared.thread.ThreadStatus.TheVariants.{Dead, Running, Ready, Sleeping, WaitSync, WaitArbiter, Dormant}
 use Rattle.types.specs.declared.thread.Thread as th
@@ -24,9 +22,9 @@ abbrev pub positive : ℕ → Bool
 positive n = ltb 0 n and ltb n 2147483648
 
 -- nobody's, or the thread's own
-abbrev pub free_for : ThreadOption → ℕ → Bool
-free_for NoThread w = true
-free_for (SomeThread u) w = eqb u w
+abbrev pub free_for : Option ℕ → ℕ → Bool
+free_for None w = true
+free_for (Some u) w = eqb u w
 
 -- what holds no signal is signalled, and so is an object that is not there
 abbrev pub is_signaled : List th.Thread → KObject → ℕ → Bool
@@ -55,7 +53,7 @@ abbrev pub acquired : KObject → ℕ → KObject
 acquired (Free n) w = Free n
 acquired (Thread u) w = Thread u
 acquired (Event e) w = Event (record { reset_type = e.reset_type; signaled = stays_set e.reset_type e.signaled })
-acquired (Mutex m) w = Mutex (record { owner = SomeThread w; lock_count = pick (ltb m.lock_count 4294967295) (m.lock_count + 1) m.lock_count })
+acquired (Mutex m) w = Mutex (record { owner = Some w; lock_count = pick (ltb m.lock_count 4294967295) (m.lock_count + 1) m.lock_count })
 acquired (Semaphore s) w = Semaphore (record { count = one_less s.count; max_count = s.max_count })
 acquired (Timer t) w = Timer (record { reset_type = t.reset_type; signaled = stays_set t.reset_type t.signaled; fire_at = t.fire_at; interval = t.interval })
 acquired (AddressArbiter a) w = AddressArbiter a

@@ -1,8 +1,7 @@
 -- `fire_timers`, `catch_up_timers` and `timer_due` of mod.rs. `timers` is the live timer slots.
-use Rattle.std.specs.Prelude.{Bool, true, false, not, List, [], ◌∷◌, map, ℕ, suc, ◌+◌, ◌-◌, ◌*◌, ◌/◌, leb, ltb}
+use Rattle.units.specs.declared.Ticks.{Ticks}
+use Rattle.std.specs.Prelude.{Bool, true, false, not, List, [], ◌∷◌, map, ℕ, suc, ◌+◌, ◌-◌, ◌*◌, ◌/◌, leb, ltb, Option, Some, None}
 use Rattle.laws.specs.Logic.{pick, ◌and◌, ◌or◌}
-use Rattle.types.specs.declared.thread.TickOption.{TickOption}
-use Rattle.types.specs.declared.thread.TickOption.TheVariants.{NoTick, SomeTick}
 use Rattle.types.specs.declared.thread.Thread as th
 use Rattle.types.specs.declared.sync.Timer as ti
 use Rattle.types.specs.declared.object.KObject.{KObject}
@@ -26,13 +25,13 @@ saturating_mul a b = least (a * b) max_tick
 
 -- ---- `fire_timers`
 -- whether a timer comes due by the tick
-abbrev pub due_by : TickOption → ℕ → Bool
-due_by NoTick tick = false
-due_by (SomeTick at) tick = leb at.0 tick
+abbrev pub due_by : Option Ticks → ℕ → Bool
+due_by None tick = false
+due_by (Some at) tick = leb at.0 tick
 
 -- the first period after the tick, counted from when it came due; an interval of 0 fires once
-abbrev pub due_again : ℕ → ℕ → ℕ → TickOption
-due_again at interval tick = pick (ltb 0 interval) (SomeTick (record { 0 = saturating_add at (saturating_mul interval ((tick - at) / interval + 1)) })) NoTick
+abbrev pub due_again : ℕ → ℕ → ℕ → Option Ticks
+due_again at interval tick = pick (ltb 0 interval) (Some (record { 0 = saturating_add at (saturating_mul interval ((tick - at) / interval + 1)) })) None
 
 -- question 8: the count of periods does not fit
 abbrev pub periods_over : ℕ → ℕ → ℕ → Bool
@@ -42,9 +41,9 @@ abbrev pub fired_timer : ti.Timer → ℕ → ℕ → ti.Timer
 fired_timer t at tick = record { reset_type = t.reset_type; signaled = true; fire_at = due_again at t.interval.0 tick; interval = t.interval }
 
 -- once, however many periods went by; a pulse is marked
-abbrev pub fired_at : Slot → ti.Timer → TickOption → ℕ → Slot
-fired_at s t NoTick tick = s
-fired_at s t (SomeTick at) tick =
+abbrev pub fired_at : Slot → ti.Timer → Option Ticks → ℕ → Slot
+fired_at s t None tick = s
+fired_at s t (Some at) tick =
     pick (leb at.0 tick) (record { object = Timer (fired_timer t at.0 tick); refcount = s.refcount; pulsed = s.pulsed or is_pulse t.reset_type }) s
 
 abbrev pub fired_as : Slot → KObject → ℕ → Slot
@@ -61,9 +60,9 @@ fired_as s ResourceLimit tick = s
 abbrev pub fired_slot : ℕ → Slot → Slot
 fired_slot tick s = fired_as s s.object tick
 
-abbrev pub over_at : TickOption → ℕ → ℕ → Bool
-over_at NoTick interval tick = false
-over_at (SomeTick at) interval tick = leb at.0 tick and periods_over at.0 interval tick
+abbrev pub over_at : Option Ticks → ℕ → ℕ → Bool
+over_at None interval tick = false
+over_at (Some at) interval tick = leb at.0 tick and periods_over at.0 interval tick
 
 abbrev pub over_of : KObject → ℕ → Bool
 over_of (Free n) tick = false

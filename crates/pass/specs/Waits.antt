@@ -1,14 +1,11 @@
 -- `try_satisfy_wait`, `begin_wait` and `sleep_current` of mod.rs.
-use Rattle.std.specs.Prelude.{Bool, true, false, List, [], ◌∷◌, ℕ, zero, suc, ◌+◌, set, take, get_or}
+use Rattle.units.specs.declared.Ticks.{Ticks}
+use Rattle.std.specs.Prelude.{Bool, true, false, List, [], ◌∷◌, ℕ, zero, suc, ◌+◌, set, take, get_or, Option, Some, None}
 use Rattle.laws.specs.Logic.{pick, ◌and◌}
 use Rattle.types.specs.declared.thread.ThreadStatus.{ThreadStatus}
 use Rattle.types.specs.declared.thread.ThreadStatus.TheVariants.{Dead, Running, Ready, Sleeping, WaitSync, WaitArbiter, Dormant}
-use Rattle.types.specs.declared.thread.ThreadOption.{ThreadOption}
-use Rattle.types.specs.declared.thread.ThreadOption.TheVariants.{NoThread, SomeThread}
-use Rattle.types.specs.declared.thread.TickOption.{TickOption}
-use Rattle.types.specs.declared.thread.TickOption.TheVariants.{NoTick, SomeTick}
 use Rattle.types.specs.declared.thread.WaitResult.{WaitResult}
-use Rattle.types.specs.declared.thread.WaitResult.TheVariants.{NoResult, Signaled}
+use Rattle.types.specs.declared.thread.WaitResult.TheVariants.{Signaled}
 use Rattle.types.specs.declared.thread.WaitResult.TheVariants as result
 use Rattle.types.specs.declared.thread.Thread.{Thread}
 use Rattle.types.specs.declared.object.ObjectStore.{ObjectStore}
@@ -18,8 +15,6 @@ use Rattle.sound.specs.View.{ids, object_at, thread_at}
 use Rattle.object.specs.Store.{add_refs}
 use Rattle.thread.specs.Thread.{clear_wait, with_status, with_result}
 use Rattle.thread.specs.Threads.{with_threads, release_waits}
-use Rattle.pass.specs.declared.IndexOption.{IndexOption}
-use Rattle.pass.specs.declared.IndexOption.TheVariants.{NoIndex, SomeIndex}
 use Rattle.pass.specs.declared.Fate.{Fate}
 use Rattle.pass.specs.declared.Fate.TheVariants.{Stays, Given, TimedOut, Slept}
 use Rattle.pass.specs.declared.Waits.{Waits}
@@ -33,13 +28,13 @@ all_signaled ts s w [] = true
 all_signaled ts s w (o ∷ os) = is_signaled ts (object_at s o) w and all_signaled ts s w os
 
 -- the first one, counted from i
-unfoldable pub first_signaled : List Thread → ObjectStore → ℕ → ℕ → List ℕ → IndexOption
-first_signaled ts s w i [] = NoIndex
-first_signaled ts s w i (o ∷ os) = pick (is_signaled ts (object_at s o) w) (SomeIndex i) (first_signaled ts s w (i + 1) os)
+unfoldable pub first_signaled : List Thread → ObjectStore → ℕ → ℕ → List ℕ → Option ℕ
+first_signaled ts s w i [] = None
+first_signaled ts s w i (o ∷ os) = pick (is_signaled ts (object_at s o) w) (Some i) (first_signaled ts s w (i + 1) os)
 
 -- a wait for all gives index 0; of no objects it is satisfied, and a wait for any is not
-abbrev pub satisfied_at : List Thread → ObjectStore → ℕ → Bool → List ℕ → IndexOption
-satisfied_at ts s w true os = pick (all_signaled ts s w os) (SomeIndex 0) NoIndex
+abbrev pub satisfied_at : List Thread → ObjectStore → ℕ → Bool → List ℕ → Option ℕ
+satisfied_at ts s w true os = pick (all_signaled ts s w os) (Some 0) None
 satisfied_at ts s w false os = first_signaled ts s w 0 os
 
 -- ---- `try_satisfy_wait`: satisfaction before time-out
@@ -47,12 +42,12 @@ satisfied_at ts s w false os = first_signaled ts s w 0 os
 abbrev pub waited_objects : Thread → List ℕ
 waited_objects t = take t.wait_count (ids t.wait_objects)
 
-abbrev pub fate_of : IndexOption → Bool → Fate
-fate_of (SomeIndex i) late = Given i
-fate_of NoIndex late = pick late TimedOut Stays
+abbrev pub fate_of : Option ℕ → Bool → Fate
+fate_of (Some i) late = Given i
+fate_of None late = pick late TimedOut Stays
 
 -- a sleep takes no result; a wait at an address is given by another thread, so only its time is looked at here
-abbrev pub fate_as : ThreadStatus → IndexOption → Bool → Fate
+abbrev pub fate_as : ThreadStatus → Option ℕ → Bool → Fate
 fate_as Dead found late = Stays
 fate_as Running found late = Stays
 fate_as Ready found late = Stays
@@ -71,7 +66,7 @@ abbrev pub taken : Thread → ℕ → List ℕ
 taken t i = pick t.wait_all (waited_objects t) (get_or (ids t.wait_objects) i 0 ∷ [])
 
 -- the wait is over: the list's objects are let go and the thread is Ready, with the result r
-abbrev pub awake : Waits → ℕ → WaitResult → Waits
+abbrev pub awake : Waits → ℕ → Option WaitResult → Waits
 awake w t r = record {
   objects = release_waits w.objects w.threads t;
   threads = set w.threads t (with_status (with_result (clear_wait (thread_at w.threads t)) r (thread_at w.threads t).wait_syscall) Ready);
@@ -79,8 +74,8 @@ awake w t r = record {
 
 abbrev pub try_as : Fate → Waits → ℕ → Waits
 try_as Stays w t = w
-try_as (Given i) w t = awake (record { objects = acquires w.objects (taken (thread_at w.threads t) i) t; threads = w.threads }) t (Signaled i)
-try_as TimedOut w t = awake w t result.TimedOut
+try_as (Given i) w t = awake (record { objects = acquires w.objects (taken (thread_at w.threads t) i) t; threads = w.threads }) t (Some (Signaled i))
+try_as TimedOut w t = awake w t (Some result.TimedOut)
 try_as Slept w t = awake w t (thread_at w.threads t).wait_result
 
 unfoldable pub try_wait : ℕ → Waits → ℕ → Waits
@@ -92,11 +87,11 @@ try_waits tick zero t w = w
 try_waits tick (suc n) t w = try_waits tick n (suc t) (try_wait tick w t)
 
 -- ---- `begin_wait`: the current thread waits on the first n of a list, which it holds while it waits
-abbrev pub wake_tick : TickOption → ℕ → TickOption
-wake_tick NoTick tick = NoTick
-wake_tick (SomeTick d) tick = SomeTick (record { 0 = saturating_add tick d.0 })
+abbrev pub wake_tick : Option Ticks → ℕ → Option Ticks
+wake_tick None tick = None
+wake_tick (Some d) tick = Some (record { 0 = saturating_add tick d.0 })
 
-abbrev pub waiting : Thread → List ObjectId → ℕ → Bool → TickOption → Thread
+abbrev pub waiting : Thread → List ObjectId → ℕ → Bool → Option Ticks → Thread
 waiting t l n all wake = record {
   status = WaitSync;
   priority = t.priority;
@@ -111,17 +106,17 @@ waiting t l n all wake = record {
   running_since = t.running_since;
   waited = t.waited;
   wait_address = t.wait_address;
-  wait_result = NoResult;
+  wait_result = None;
   wait_syscall = t.wait_syscall;
   guest_id = t.guest_id;
 }
 
-abbrev pub begin_wait_as : ThreadOption → Kernel → List ObjectId → ℕ → Bool → TickOption → ℕ → Kernel
-begin_wait_as NoThread k l n all timeout tick = k
-begin_wait_as (SomeThread c) k l n all timeout tick =
+abbrev pub begin_wait_as : Option ℕ → Kernel → List ObjectId → ℕ → Bool → Option Ticks → ℕ → Kernel
+begin_wait_as None k l n all timeout tick = k
+begin_wait_as (Some c) k l n all timeout tick =
     with_threads k (set k.threads c (waiting (thread_at k.threads c) l n all (wake_tick timeout tick))) (add_refs k.objects (take n (ids l)))
 
-unfoldable pub begin_wait : Kernel → List ObjectId → ℕ → Bool → TickOption → ℕ → Kernel
+unfoldable pub begin_wait : Kernel → List ObjectId → ℕ → Bool → Option Ticks → ℕ → Kernel
 begin_wait k l n all timeout tick = begin_wait_as k.current_thread k l n all timeout tick
 
 -- ---- `sleep_current`: result and call kind of an older wait stay
@@ -136,7 +131,7 @@ sleeping t wake = record {
   wait_objects = (clear_wait t).wait_objects;
   wait_count = 0;
   wait_all = false;
-  wakeup_at = SomeTick (record { 0 = wake });
+  wakeup_at = Some (record { 0 = wake });
   running_since = t.running_since;
   waited = t.waited;
   wait_address = (clear_wait t).wait_address;
@@ -145,9 +140,9 @@ sleeping t wake = record {
   guest_id = t.guest_id;
 }
 
-abbrev pub sleep_as : ThreadOption → Kernel → ℕ → ℕ → Kernel
-sleep_as NoThread k ticks tick = k
-sleep_as (SomeThread c) k ticks tick = with_threads k (set k.threads c (sleeping (thread_at k.threads c) (saturating_add tick ticks))) k.objects
+abbrev pub sleep_as : Option ℕ → Kernel → ℕ → ℕ → Kernel
+sleep_as None k ticks tick = k
+sleep_as (Some c) k ticks tick = with_threads k (set k.threads c (sleeping (thread_at k.threads c) (saturating_add tick ticks))) k.objects
 
 unfoldable pub sleep_current : Kernel → ℕ → ℕ → Kernel
 sleep_current k ticks tick = sleep_as k.current_thread k ticks tick

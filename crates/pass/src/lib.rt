@@ -3,15 +3,8 @@
 
 use types::kernel::Kernel;
 use types::object::ObjectStore;
-use types::thread::{Thread, ThreadOption};
+use types::thread::Thread;
 use units::ObjectId;
-
-// The place in a wait's list at which it is satisfied, or none.
-#[derive(Clone, Copy)]
-pub enum IndexOption {
-    NoIndex,
-    SomeIndex(u32),
-}
 
 // What becomes of a blocked thread in a pass.
 #[derive(Clone, Copy)]
@@ -35,8 +28,8 @@ pub struct Waits {
 #[derive(Clone, Copy)]
 pub struct Passed {
     pub kernel: Kernel,
-    pub saved: ThreadOption,
-    pub restored: ThreadOption,
+    pub saved: Option<u32>,
+    pub restored: Option<u32>,
     pub switched: bool,
 }
 
@@ -47,13 +40,12 @@ pub const WAIT_AT_ONCE: usize = 8;
 #[derive(Clone, Copy)]
 pub struct Satisfied {
     pub objects: [ObjectId; WAIT_AT_ONCE],
-    pub index: IndexOption,
+    pub index: Option<u32>,
 }
 
 // What letting go of a mutex would do without a pass.
 #[derive(Clone, Copy)]
 pub enum Release {
-    NotQuiet,
     // Held more than once, it only counts down.
     CountsDown(ObjectId),
     Frees(ObjectId),

@@ -1,15 +1,12 @@
 -- A current thread with no list that begins to wait on live objects leaves a sound state: each object of the list gains a name.
-use Rattle.std.specs.Prelude.{◌≡◌, Bool, List, [], ◌∷◌, ℕ, zero, suc, ◌^◌, ◌≤◌, ◌<◌, length, set, take}
+use Rattle.units.specs.declared.Ticks.{Ticks}
+use Rattle.std.specs.Prelude.{◌≡◌, Bool, List, [], ◌∷◌, ℕ, zero, suc, ◌^◌, ◌≤◌, ◌<◌, length, set, take, Option, Some, None}
 use Rattle.std.proofs.Math.Path.{refl}
 use Rattle.std.proofs.Common.{◌∙◌, arith}
 use Rattle.std.proofs.lemmas.List.{length-map}
 use Rattle.laws.specs.All.{All}
 use Rattle.laws.specs.Count.{count}
 use Rattle.units.specs.declared.ObjectId.{ObjectId}
-use Rattle.types.specs.declared.thread.TickOption.{TickOption}
-use Rattle.types.specs.declared.thread.TickOption.TheVariants.{NoTick, SomeTick}
-use Rattle.types.specs.declared.thread.ThreadOption.{ThreadOption}
-use Rattle.types.specs.declared.thread.ThreadOption.TheVariants.{NoThread, SomeThread}
 use Rattle.types.specs.declared.thread.Thread.{Thread}
 use Rattle.types.specs.declared.object.ObjectStore.{ObjectStore}
 use Rattle.types.specs.declared.kernel.Kernel.{Kernel}
@@ -41,7 +38,7 @@ use Rattle.passing.specs.Switch.{current-live}
 use Rattle.passing.specs.Sleeps.{Unlisted, unlisted_zeros}
 
 -- ---- the list that a wait may begin with
--- n objects of the state, then zeros, in 8 places
+-- n objects of the state, then zeros, in 12 places
 pub record Waitable (k : Kernel) (l : List ObjectId) (n : ℕ) : Type 0 where
   pub places : Places n (ids l)
   pub known : Known k.objects (names k.handles k.threads) (take n (ids l))
@@ -59,9 +56,9 @@ places_in zero l z = omega arith
 places_in (suc n) [] z = absurd z
 places_in (suc n) (x ∷ l) z = omega (arith, places_in n l z.1.1)
 
-pub wake-fits : (timeout : TickOption) (tick : ℕ) → tick_value (wake_tick timeout tick) < 256 ^ 8
-wake-fits NoTick tick = z8
-wake-fits (SomeTick d) tick = saturating_fits tick d.0
+pub wake-fits : (timeout : Option Ticks) (tick : ℕ) → tick_value (wake_tick timeout tick) < 256 ^ 8
+wake-fits None tick = z8
+wake-fits (Some d) tick = saturating_fits tick d.0
 
 -- ---- the finding is left alone
 pub add_ref-overflow : (s : ObjectStore) (o : ℕ) → (add_ref s o).overflow ≡ s.overflow
@@ -74,11 +71,11 @@ add_refs-overflow [] s = refl
 add_refs-overflow (o ∷ os) s = add_refs-overflow os (add_ref s o) ∙ add_ref-overflow s o
 
 -- ---- `begin_wait`
-module _ (k : Kernel) (p : Parts k) (l : List ObjectId) (n : ℕ) (q : Waitable k l n) (all : Bool) (timeout : TickOption) (tick : ℕ) where
+module _ (k : Kernel) (p : Parts k) (l : List ObjectId) (n : ℕ) (q : Waitable k l n) (all : Bool) (timeout : Option Ticks) (tick : ℕ) where
   few : n ≤ wait_list
   few = omega (arith, places_in n (ids l) q.places, length-map l (λ (o : ObjectId). o.0), q.size)
 
-  module _ (c : ℕ) (live : Live k.threads c) (none : Unlisted k.threads (SomeThread c)) where
+  module _ (c : ℕ) (live : Live k.threads c) (none : Unlisted k.threads (Some c)) where
     abbrev waiter : Thread
     waiter = waiting (thread_at k.threads c) l n all (wake_tick timeout tick)
 
@@ -109,13 +106,13 @@ module _ (k : Kernel) (p : Parts k) (l : List ObjectId) (n : ℕ) (q : Waitable 
           overflow = add_refs-overflow os k.objects ∙ p.clean.3;
         }
 
-  begin_as : (c : ThreadOption) → k.current_thread ≡ c → Unlisted k.threads c → Parts (begin_wait_as c k l n all timeout tick)
-  begin_as NoThread e u = p
-  begin_as (SomeThread c) e u = let live = current-live k p c e in place-parts k p c live (waiter c live u) (turned c live u) (add_refs k.objects (take n (ids l))) (store c live u)
+  begin_as : (c : Option ℕ) → k.current_thread ≡ c → Unlisted k.threads c → Parts (begin_wait_as c k l n all timeout tick)
+  begin_as None e u = p
+  begin_as (Some c) e u = let live = current-live k p c e in place-parts k p c live (waiter c live u) (turned c live u) (add_refs k.objects (take n (ids l))) (store c live u)
 
   pub begin_wait-parts : Unlisted k.threads k.current_thread → Parts (begin_wait k l n all timeout tick)
   unfolding begin_wait
   begin_wait-parts u = begin_as k.current_thread refl u
 
-pub begin_wait-sound : (k : Kernel) (l : List ObjectId) (n : ℕ) (all : Bool) (timeout : TickOption) (tick : ℕ) → Waitable k l n → Unlisted k.threads k.current_thread → Sound k → Sound (begin_wait k l n all timeout tick)
+pub begin_wait-sound : (k : Kernel) (l : List ObjectId) (n : ℕ) (all : Bool) (timeout : Option Ticks) (tick : ℕ) → Waitable k l n → Unlisted k.threads k.current_thread → Sound k → Sound (begin_wait k l n all timeout tick)
 begin_wait-sound k l n all timeout tick q u s = parts-sound (begin_wait k l n all timeout tick) (begin_wait-parts k (sound-parts k s) l n q all timeout tick u)

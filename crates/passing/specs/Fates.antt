@@ -1,5 +1,5 @@
 -- What becomes of a thread in a pass: only one that is not Dead changes, and the index that it is given fits a word.
-use Rattle.std.specs.Prelude.{◌≡◌, refl, Bool, true, false, List, [], ◌∷◌, ℕ, zero, suc, ◌+◌, ◌≤◌, length, take}
+use Rattle.std.specs.Prelude.{◌≡◌, refl, Bool, true, false, List, [], ◌∷◌, ℕ, zero, suc, ◌+◌, ◌≤◌, length, take, Option, Some, None}
 use Rattle.std.proofs.Common.{arith}
 use Rattle.std.proofs.lemmas.List.{length-map}
 use Rattle.laws.specs.All.{All, all_get, all_as}
@@ -14,8 +14,6 @@ use Rattle.sound.specs.View.{ids, no_thread, object_at, thread_at}
 use Rattle.sound.specs.Objects.{Live}
 use Rattle.soundness.specs.Slots.{pick-both}
 use Rattle.soundness.specs.Fits.{Word}
-use Rattle.pass.specs.declared.IndexOption.{IndexOption}
-use Rattle.pass.specs.declared.IndexOption.TheVariants.{NoIndex, SomeIndex}
 use Rattle.pass.specs.declared.Fate.{Fate}
 use Rattle.pass.specs.declared.Fate.TheVariants.{Stays, Given, TimedOut, Slept}
 use Rattle.pass.specs.Signal.{is_signaled}
@@ -23,18 +21,18 @@ use Rattle.pass.specs.Timers.{due_by}
 use Rattle.pass.specs.Waits.{all_signaled, first_signaled, satisfied_at, waited_objects, fate_of, fate_as, fate}
 
 -- ---- the index of a wait is within its list
-abbrev pub IndexOk : ℕ → IndexOption → Type 0
-IndexOk n NoIndex = Unit {0}
-IndexOk n (SomeIndex i) = i ≤ n
+abbrev pub IndexOk : ℕ → Option ℕ → Type 0
+IndexOk n None = Unit {0}
+IndexOk n (Some i) = i ≤ n
 
 first_in : (ts : List Thread) (s : ObjectStore) (w n : ℕ) (os : List ℕ) (i : ℕ) → i + length os ≤ n → IndexOk n (first_signaled ts s w i os)
 unfolding first_signaled
 first_in ts s w n [] i h = tt
 first_in ts s w n (o ∷ os) i h =
-    pick-both (IndexOk n) (is_signaled ts (object_at s o) w) (SomeIndex i) (first_signaled ts s w (i + 1) os) (omega arith) (first_in ts s w n os (i + 1) (omega arith))
+    pick-both (IndexOk n) (is_signaled ts (object_at s o) w) (Some i) (first_signaled ts s w (i + 1) os) (omega arith) (first_in ts s w n os (i + 1) (omega arith))
 
 pub satisfied-in : (ts : List Thread) (s : ObjectStore) (w : ℕ) (all : Bool) (os : List ℕ) → IndexOk (length os) (satisfied_at ts s w all os)
-satisfied-in ts s w true os = pick-both (IndexOk (length os)) (all_signaled ts s w os) (SomeIndex 0) NoIndex (omega arith) tt
+satisfied-in ts s w true os = pick-both (IndexOk (length os)) (all_signaled ts s w os) (Some 0) None (omega arith) tt
 satisfied-in ts s w false os = first_in ts s w (length os) os 0 (omega arith)
 
 pub take-length : (n : ℕ) (l : List ℕ) → length (take n l) ≤ length l
@@ -50,11 +48,11 @@ FateOk ts t TimedOut = Live ts t
 FateOk ts t Slept = Live ts t
 
 module _ (ts : List Thread) (t : ℕ) where
-  given-ok : (n : ℕ) → Word n → (found : IndexOption) → IndexOk n found → Live ts t → (late : Bool) → FateOk ts t (fate_of found late)
-  given-ok n w (SomeIndex i) h l late = (l, omega arith)
-  given-ok n w NoIndex h l late = pick-both (FateOk ts t) late TimedOut Stays l tt
+  given-ok : (n : ℕ) → Word n → (found : Option ℕ) → IndexOk n found → Live ts t → (late : Bool) → FateOk ts t (fate_of found late)
+  given-ok n w (Some i) h l late = (l, omega arith)
+  given-ok n w None h l late = pick-both (FateOk ts t) late TimedOut Stays l tt
 
-  fate-as : (n : ℕ) → Word n → (x : ThreadStatus) (found : IndexOption) → IndexOk n found → (late : Bool) → is_dead (thread_at ts t).status ≡ is_dead x → FateOk ts t (fate_as x found late)
+  fate-as : (n : ℕ) → Word n → (x : ThreadStatus) (found : Option ℕ) → IndexOk n found → (late : Bool) → is_dead (thread_at ts t).status ≡ is_dead x → FateOk ts t (fate_as x found late)
   fate-as n w Dead found h late e = tt
   fate-as n w Running found h late e = tt
   fate-as n w Ready found h late e = tt
@@ -63,7 +61,7 @@ module _ (ts : List Thread) (t : ℕ) where
   fate-as n w WaitArbiter found h late e = pick-both (FateOk ts t) late TimedOut Stays e tt
   fate-as n w Dormant found h late e = tt
 
--- a list of a thread has at most 8 objects; past the table there is none
+-- a list of a thread has at most 12 objects; past the table there is none
 pub fate-ok : (ts : List Thread) (s : ObjectStore) (tick t : ℕ) → length (thread_at ts t).wait_objects ≤ wait_list → FateOk ts t (fate ts s tick t)
 unfolding fate
 fate-ok ts s tick t h =

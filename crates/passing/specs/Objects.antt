@@ -1,8 +1,8 @@
 -- Objects that are alike: what a signal, a timer that fires and a wait that takes an object change of it.
-use Rattle.std.specs.Prelude.{◌≡◌, refl, Bool, true, false, List, ℕ, ◌+◌, ◌^◌, ◌<◌, ltb}
+use Rattle.units.specs.declared.Ticks.{Ticks}
+use Rattle.std.specs.Prelude.{◌≡◌, refl, Bool, true, false, List, ℕ, ◌+◌, ◌^◌, ◌<◌, ltb, Option}
 use Rattle.std.proofs.Common.{arith, ltb-true}
 use Rattle.laws.specs.Logic.{pick}
-use Rattle.types.specs.declared.thread.TickOption.{TickOption}
 use Rattle.types.specs.declared.thread.Thread as th
 use Rattle.types.specs.declared.sync.Event as ev
 use Rattle.types.specs.declared.sync.Mutex as mu
@@ -12,7 +12,7 @@ use Rattle.types.specs.declared.object.KObject.{KObject}
 use Rattle.types.specs.declared.object.KObject.TheVariants.{Free, Thread, Event, Mutex, Semaphore, Timer, AddressArbiter, Process, ResourceLimit}
 use Rattle.types.specs.Thread.{tick_value}
 use Rattle.codec.proofs.Fit.{flag-fits}
-use Rattle.block.proofs.Enums.{tick-flag-fits}
+use Rattle.block.proofs.Enums.{option-flag-fits}
 use Rattle.sound.specs.Objects.{Live}
 use Rattle.soundness.specs.Fits.{Word, KeepsFit}
 use Rattle.pass.specs.Signal.{stays_set, acquired, cleared_event, quieted}
@@ -25,9 +25,9 @@ module _ (n : ℕ) (ts : List th.Thread) where
   event-like e b = record { shape = refl; content = λ c. c; fits = λ f. record { kind = f.kind; a = f.a; b = flag-fits b; c = f.c; x = f.x; y = f.y } }
 
   -- with a time that fits its field
-  pub timer_like : (t : ti.Timer) (b : Bool) (at : TickOption) → (KeepsFit (Timer t) → tick_value at < 256 ^ 8)
+  pub timer_like : (t : ti.Timer) (b : Bool) (at : Option Ticks) → (KeepsFit (Timer t) → tick_value at < 256 ^ 8)
       → Like n ts (Timer t) (Timer (record { reset_type = t.reset_type; signaled = b; fire_at = at; interval = t.interval }))
-  timer_like t b at h = record { shape = refl; content = λ c. c; fits = λ f. record { kind = f.kind; a = f.a; b = flag-fits b; c = tick-flag-fits at; x = h f; y = f.y } }
+  timer_like t b at h = record { shape = refl; content = λ c. c; fits = λ f. record { kind = f.kind; a = f.a; b = flag-fits b; c = option-flag-fits at; x = h f; y = f.y } }
 
   pub quiet-like : (x : KObject) → Like n ts x (quieted x)
   quiet-like (Free m) = like-same n ts (Free m)

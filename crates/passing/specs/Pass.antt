@@ -1,7 +1,6 @@
 -- A pass leaves a sound state, unless a finding of it is up.
-use Rattle.std.specs.Prelude.{◌≡◌, Bool, false, List, ℕ, ◌^◌, ◌<◌}
+use Rattle.std.specs.Prelude.{◌≡◌, Bool, false, List, ℕ, ◌^◌, ◌<◌, Option}
 use Rattle.std.proofs.Common.{ap, sym, ◌∙◌, arith}
-use Rattle.types.specs.declared.thread.ThreadOption.{ThreadOption}
 use Rattle.types.specs.declared.thread.Thread.{Thread}
 use Rattle.types.specs.declared.object.ObjectStore.{ObjectStore}
 use Rattle.types.specs.declared.kernel.Kernel.{Kernel}
@@ -23,13 +22,13 @@ use Rattle.passing.specs.Switch.{mark_parts, begin-parts, begin-runs, switch_par
 pub choose-parts : (k : Kernel) (w : Waits) (tick : ℕ) → tick < 256 ^ 8 → Parts (during k w) → Parts (choose k w tick).kernel
 choose-parts k w tick f p =
     let s : ObjectStore = w.objects in
-    let c : ThreadOption = k.current_thread in
+    let c : (Option ℕ) = k.current_thread in
     let ts : List Thread = mark_waited w.threads c in
-    let first : ThreadOption = pick_next ts c in
+    let first : (Option ℕ) = pick_next ts c in
     let first_runs : Runs ts first = pick_next-runs ts c in
     let begun : List Thread = begin_run ts first tick in
     let starve : Bool = starving begun first tick in
-    let next : ThreadOption = chosen begun first starve k.relief in
+    let next : (Option ℕ) = chosen begun first starve k.relief in
     let next-runs : Runs begun next = chosen-runs begun first starve k.relief (begin-runs ts first tick first first_runs) in
     switch_parts k s (begin_run begun next tick) (flipped starve k.relief)
     (begin-parts (with_threads k begun s) (begin-parts (with_threads k ts s) (mark_parts (during k w) p) first first_runs tick f) next next-runs tick f) next (begin-runs begun next tick next next-runs)

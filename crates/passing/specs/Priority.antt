@@ -1,11 +1,10 @@
 -- Another priority leaves a sound state, of an ended thread too. A place that is not in use must stay all zero, so the place is one in use.
 use Rattle.std.proofs.Math.Path.{refl}
-use Rattle.std.proofs.Common.{◌∙◌, arith}
+use Rattle.std.proofs.Common.{◌∙◌, arith, Option}
 use Prim.Native.Nat.{ℕ, ◌<◌}
 use Rattle.std.specs.Prelude.{length, set}
 use Rattle.std.proofs.Math.ListN.{length-set}
 use Rattle.laws.specs.All.{all_set}
-use Rattle.types.specs.declared.thread.ThreadOption.{ThreadOption}
 use Rattle.types.specs.declared.thread.Thread.{Thread}
 use Rattle.types.specs.declared.kernel.Kernel.{Kernel}
 use Rattle.block.proofs.Fits.{ThreadFits}
@@ -58,7 +57,7 @@ module _ (k : Kernel) (t : ℕ) (l : t < k.thread_count) (p : ℕ) (h : Parts k)
   unfolding set_priority
   set_priority-parts =
       let n : ℕ = k.thread_count in
-      let c : ThreadOption = k.current_thread in
+      let c : (Option ℕ) = k.current_thread in
       let u = (h.threads.each t in_table).used l in
       record {
         ob = store.ob;

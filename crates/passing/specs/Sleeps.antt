@@ -1,9 +1,7 @@
 -- A current thread with no list that goes to sleep leaves a sound state.
-use Rattle.std.specs.Prelude.{◌≡◌, List, ℕ}
+use Rattle.std.specs.Prelude.{◌≡◌, List, ℕ, Option, Some, None}
 use Rattle.std.proofs.Math.Path.{refl}
 use Rattle.std.proofs.Common.{sym, ◌∙◌}
-use Rattle.types.specs.declared.thread.ThreadOption.{ThreadOption}
-use Rattle.types.specs.declared.thread.ThreadOption.TheVariants.{NoThread, SomeThread}
 use Rattle.types.specs.declared.thread.Thread.{Thread}
 use Rattle.types.specs.declared.kernel.Kernel.{Kernel}
 use Rattle.sound.specs.View.{ids, thread_at}
@@ -21,24 +19,24 @@ use Rattle.passing.specs.Picks.{Runs}
 use Rattle.passing.specs.Switch.{current-live}
 
 -- ---- a thread that waits on no object, or none
-abbrev pub Unlisted : List Thread → ThreadOption → Type 0
-Unlisted ts NoThread = Unit {0}
-Unlisted ts (SomeThread c) = (thread_at ts c).wait_count ≡ 0
+abbrev pub Unlisted : List Thread → Option ℕ → Type 0
+Unlisted ts None = Unit {0}
+Unlisted ts (Some c) = (thread_at ts c).wait_count ≡ 0
 
 -- as one that can run does
-pub runs_unlisted : (k : Kernel) → Parts k → (o : ThreadOption) → Runs k.threads o → Unlisted k.threads o
-runs_unlisted k p NoThread h = tt
-runs_unlisted k p (SomeThread c) h =
+pub runs_unlisted : (k : Kernel) → Parts k → (o : Option ℕ) → Runs k.threads o → Unlisted k.threads o
+runs_unlisted k p None h = tt
+runs_unlisted k p (Some c) h =
     runs_none (thread_at k.threads c).status (thread_at k.threads c).wait_count h (live-ok k p c (runs-live (thread_at k.threads c).status h)).only
 
-pub unlisted_zeros : (k : Kernel) (p : Parts k) (c : ℕ) → Live k.threads c → Unlisted k.threads (SomeThread c) → Zeros (ids (thread_at k.threads c).wait_objects)
+pub unlisted_zeros : (k : Kernel) (p : Parts k) (c : ℕ) → Live k.threads c → Unlisted k.threads (Some c) → Zeros (ids (thread_at k.threads c).wait_objects)
 unlisted_zeros k p c live e = no-list k.thread_count k.current_thread c (thread_at k.threads c) e (p.threads.each c (live-place k p c live))
 
 -- ---- `sleep_current`
 module _ (k : Kernel) (p : Parts k) (ticks tick : ℕ) where
-  sleep-as : (c : ThreadOption) → k.current_thread ≡ c → Unlisted k.threads c → Parts (sleep_as c k ticks tick)
-  sleep-as NoThread e n = p
-  sleep-as (SomeThread c) e n =
+  sleep-as : (c : Option ℕ) → k.current_thread ≡ c → Unlisted k.threads c → Parts (sleep_as c k ticks tick)
+  sleep-as None e n = p
+  sleep-as (Some c) e n =
       let live : Live k.threads c = current-live k p c e in
       let u = live-ok k p c live in
       let w = live-widths k p c live in

@@ -1,10 +1,9 @@
 -- A thread's place anew: what it must be for the state to stay sound.
-use Rattle.std.specs.Prelude.{◌≡◌, refl, Bool, true, false, ℕ, ◌^◌, ◌<◌, length, set}
+use Rattle.std.specs.Prelude.{◌≡◌, refl, Bool, true, false, ℕ, ◌^◌, ◌<◌, length, set, Option}
 use Rattle.std.proofs.Common.{sym, subst, ◌∙◌, inl, inr, arith, length-set}
 use Rattle.laws.specs.Logic.{lt-cases, false-true}
 use Rattle.laws.specs.All.{all_set}
 use Rattle.laws.specs.Count.{count}
-use Rattle.types.specs.declared.thread.ThreadOption.{ThreadOption}
 use Rattle.types.specs.declared.thread.ThreadStatus.{ThreadStatus}
 use Rattle.types.specs.declared.thread.ThreadStatus.TheVariants.{Dead, Running, Ready, Sleeping, WaitSync, WaitArbiter, Dormant}
 use Rattle.types.specs.declared.thread.Thread.{Thread}
@@ -48,7 +47,7 @@ module _ (k : Kernel) (p : Parts k) (i : ℕ) (live : Live k.threads i) where
   live-widths = widths-of (thread_at k.threads i) (fits-at k.threads i (live_in k.threads i live) p.threads_fit)
 
 -- ---- a thread v in the place i, where a thread that is not Dead stood
-pub record Turned (c : ThreadOption) (i : ℕ) (old v : Thread) : Type 0 where
+pub record Turned (c : Option ℕ) (i : ℕ) (old v : Thread) : Type 0 where
   pub ok : ThreadOk c i v
   pub live : is_dead v.status ≡ false
   pub tls : v.tls ≡ old.tls
@@ -65,7 +64,7 @@ module _ (k : Kernel) (p : Parts k) (i : ℕ) (live : Live k.threads i) (v : Thr
   pub place-parts : (s : ObjectStore) → StoreOk k.thread_count (set k.threads i v) (names k.handles (set k.threads i v)) s → Parts (with_threads k (set k.threads i v) s)
   place-parts s o =
       let n : ℕ = k.thread_count in
-      let c : ThreadOption = k.current_thread in
+      let c : (Option ℕ) = k.current_thread in
       let l : i < n = live-used k p i live in
       record {
         ob = o.ob;

@@ -1,10 +1,9 @@
 -- Timers that fire, pulses that end, and pulses that are lost leave a state sound.
-use Rattle.std.specs.Prelude.{◌≡◌, refl, Bool, true, false, not, ℕ, suc, ◌+◌, ◌-◌, ◌/◌, ◌^◌, ◌<◌, leb, ltb}
+use Rattle.units.specs.declared.Ticks.{Ticks}
+use Rattle.std.specs.Prelude.{◌≡◌, refl, Bool, true, false, not, ℕ, suc, ◌+◌, ◌-◌, ◌/◌, ◌^◌, ◌<◌, leb, ltb, Option, Some, None}
 use mathlib.Core.List.{List, [], ◌∷◌, map}
 use Rattle.std.proofs.Common.{arith}
 use Rattle.laws.specs.Logic.{pick, ◌and◌, ◌or◌}
-use Rattle.types.specs.declared.thread.TickOption.{TickOption}
-use Rattle.types.specs.declared.thread.TickOption.TheVariants.{NoTick, SomeTick}
 use Rattle.types.specs.declared.thread.Thread as th
 use Rattle.types.specs.declared.sync.Timer as ti
 use Rattle.types.specs.declared.object.KObject.{KObject}
@@ -32,14 +31,14 @@ saturating_fits a b = omega (arith, least-le (a + b) max_tick)
 
 again_fits : (at interval tick : ℕ) → tick_value (due_again at interval tick) < 256 ^ 8
 again_fits at interval tick =
-    pick-both (λ (o : TickOption). tick_value o < 256 ^ 8) (ltb 0 interval) _ NoTick (saturating_fits at (saturating_mul interval ((tick - at) / interval + 1))) z8
+    pick-both (λ (o : Option Ticks). tick_value o < 256 ^ 8) (ltb 0 interval) _ None (saturating_fits at (saturating_mul interval ((tick - at) / interval + 1))) z8
 
 module _ (n : ℕ) (ts : List th.Thread) where
   -- ---- `fire_timers`
-  fired-at : (tick : ℕ) (r : ℕ) (p : Bool) (t : ti.Timer) (at : TickOption)
+  fired-at : (tick : ℕ) (r : ℕ) (p : Bool) (t : ti.Timer) (at : Option Ticks)
       → Alike n ts (record { object = Timer t; refcount = r; pulsed = p }) (fired_at (record { object = Timer t; refcount = r; pulsed = p }) t at tick)
-  fired-at tick r p t NoTick = alike_same n ts _
-  fired-at tick r p t (SomeTick at) =
+  fired-at tick r p t None = alike_same n ts _
+  fired-at tick r p t (Some at) =
       pick-both (Alike n ts (record { object = Timer t; refcount = r; pulsed = p })) (leb at.0 tick) _ _
       (alike_of n ts (record { object = Timer t; refcount = r; pulsed = p }) (Timer (fired_timer t at.0 tick)) (p or is_pulse t.reset_type)
       (timer_like n ts t true (due_again at.0 t.interval.0 tick) (λ f. again_fits at.0 t.interval.0 tick)))

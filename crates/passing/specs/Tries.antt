@@ -1,5 +1,5 @@
 -- The tries of a pass leave a state sound. The finding sticks: if it is down after all tries, it was down after each.
-use Rattle.std.specs.Prelude.{◌≡◌, false, List, ℕ, zero, suc}
+use Rattle.std.specs.Prelude.{◌≡◌, false, List, ℕ, zero, suc, Some}
 use Rattle.std.proofs.Common.{sym, ◌∙◌}
 use Rattle.types.specs.declared.thread.WaitResult.TheVariants.{Signaled}
 use Rattle.types.specs.declared.thread.WaitResult.TheVariants as result
@@ -41,9 +41,9 @@ try_parts k Stays w t h e p = p
 try_parts k (Given i) w t h e p =
     let os : List ℕ = taken (thread_at w.threads t) i in
     let a : ObjectStore = acquires w.objects os t in
-    awake-parts k (record { objects = a; threads = w.threads }) t (Signaled i) h.0 h.1
+    awake-parts k (record { objects = a; threads = w.threads }) t (Some (Signaled i)) h.0 h.1
     (acquires-parts (during k w) p os t h.0 (sym (releases-overflow a (waited_objects (thread_at w.threads t))) ∙ e))
-try_parts k TimedOut w t h e p = awake-parts k w t result.TimedOut h z4 p
+try_parts k TimedOut w t h e p = awake-parts k w t (Some result.TimedOut) h z4 p
 try_parts k Slept w t h e p = awake-parts k w t (thread_at w.threads t).wait_result h (live-widths (during k w) p t h).index p
 
 pub try_wait-parts : (k : Kernel) (tick : ℕ) (w : Waits) (t : ℕ) → (try_wait tick w t).objects.overflow ≡ false → Parts (during k w) → Parts (during k (try_wait tick w t))

@@ -3,9 +3,9 @@ use Rattle.std.specs.Prelude.{◌≡◌, List, ℕ, ◌^◌, ◌<◌, length}
 use Rattle.laws.specs.All.{All}
 use Rattle.units.specs.declared.ObjectId.{ObjectId}
 use Rattle.types.specs.declared.thread.Thread.{Thread}
-use Rattle.types.specs.Thread.{wait_list, tick_value, address_value, result_index}
+use Rattle.types.specs.Thread.{wait_list, tick_value, option_value, result_index}
 use Rattle.codec.proofs.Fit.{◌&◌, flag-fits}
-use Rattle.block.proofs.Enums.{status-fits, tick-flag-fits, address-flag-fits, result_fits, syscall_fits}
+use Rattle.block.proofs.Enums.{status-fits, option-flag-fits, result_fits, syscall_fits}
 use Rattle.block.proofs.Fits.{IdFits, ThreadFits}
 use Rattle.soundness.specs.Fits.{Word}
 
@@ -28,7 +28,7 @@ pub record Wait (n a w : ℕ) (l : List ObjectId) : Type 0 where
 
 pub record Widths (t : Thread) : Type 0 where
   pub own : Own t.priority t.entry t.stack_top t.tls t.processor_id t.guest_id
-  pub wait : Wait t.wait_count (address_value t.wait_address) (tick_value t.wakeup_at) t.wait_objects
+  pub wait : Wait t.wait_count (option_value t.wait_address) (tick_value t.wakeup_at) t.wait_objects
   pub index : Word (result_index t.wait_result)
   pub since : t.running_since.0 < 256 ^ 8
 
@@ -56,8 +56,8 @@ fits-of t w = (
       & w.wait.count
       & flag-fits t.wait_all
       & flag-fits t.waited
-      & tick-flag-fits t.wakeup_at
-      & address-flag-fits t.wait_address
+      & option-flag-fits t.wakeup_at
+      & option-flag-fits t.wait_address
       & w.wait.address
       & result_fits t.wait_result
       & w.index

@@ -1,4 +1,5 @@
 -- The cyclic find as it is computed: place after place, from the last one on to the first. Assumes nothing.
+use Rattle.std.specs.Prelude.{Option, Some, None}
 use mathlib.Core.Path.{◌≡◌, refl, ap, ap₂, sym, ◌∙◌}
 use mathlib.Core.Bool.{Bool, true, false}
 use mathlib.Core.List.{List}
@@ -10,28 +11,26 @@ use lib.Dec.{ltb}
 use borrow.Author.Tests.{ltb-false}
 use lib.ListN.{length}
 use Rattle.laws.specs.Logic.{pick}
-use Rattle.types.specs.declared.thread.ThreadOption.{ThreadOption}
-use Rattle.types.specs.declared.thread.ThreadOption.TheVariants.{NoThread, SomeThread}
 use Rattle.types.specs.declared.thread.Thread.{Thread}
 use Rattle.thread.specs.Threads.{least}
 use Rattle.pass.specs.Pick.{runs_at, first_from, or_else, cyclic}
 use Rattle.pick.proofs.Steps.{first-far}
 
 -- of a row of n places, the first place from start + k on that passes the test, m places looked at
-pub turns : (ℕ → Bool) → ℕ → ℕ → ℕ → ℕ → ThreadOption
-turns test n start zero k = NoThread
-turns test n start (suc m) k = pick (test ((start + k) % n)) (SomeThread ((start + k) % n)) (turns test n start m (suc k))
+pub turns : (ℕ → Bool) → ℕ → ℕ → ℕ → ℕ → Option ℕ
+turns test n start zero k = None
+turns test n start (suc m) k = pick (test ((start + k) % n)) (Some ((start + k) % n)) (turns test n start m (suc k))
 
-pub turns-step : (test : ℕ → Bool) (n start m k : ℕ) → k < m → turns test n start (m - k) k ≡ pick (test ((start + k) % n)) (SomeThread ((start + k) % n)) (turns test n start (m - (k + 1)) (k + 1))
+pub turns-step : (test : ℕ → Bool) (n start m k : ℕ) → k < m → turns test n start (m - k) k ≡ pick (test ((start + k) % n)) (Some ((start + k) % n)) (turns test n start (m - (k + 1)) (k + 1))
 unfolding turns
 turns-step test n start m k h = let e : m - k ≡ suc (m - (k + 1)) = omega arith in rw (e, add-one)
 
-pub turns-end : (test : ℕ → Bool) (n start m k : ℕ) → m ≤ k → turns test n start (m - k) k ≡ NoThread
+pub turns-end : (test : ℕ → Bool) (n start m k : ℕ) → m ≤ k → turns test n start (m - k) k ≡ None
 unfolding turns
 turns-end test n start m k h = let e : m - k ≡ 0 = omega arith in rw e
 
 -- ---- a find in two parts
-found_first : (b : Bool) (i : ℕ) (x y : ThreadOption) → pick b (SomeThread i) (or_else x y) ≡ or_else (pick b (SomeThread i) x) y
+found_first : (b : Bool) (i : ℕ) (x y : Option ℕ) → pick b (Some i) (or_else x y) ≡ or_else (pick b (Some i) x) y
 found_first true i x y = refl
 found_first false i x y = refl
 
@@ -42,7 +41,7 @@ module _ (test : ℕ → Bool) where
   first_split (suc a) m i =
       let e : suc a + m ≡ suc (a + m) = omega arith in
       let f : i + suc a ≡ suc i + a = omega arith in
-      rw (e, f) (ap (pick (test i) (SomeThread i)) (first_split a m (suc i)) ∙ found_first (test i) i (first_from test a (suc i)) (first_from test m (suc i + a)))
+      rw (e, f) (ap (pick (test i) (Some i)) (first_split a m (suc i)) ∙ found_first (test i) i (first_from test a (suc i)) (first_from test m (suc i + a)))
 
   module _ (n start : ℕ) where
     abbrev at : ℕ → ℕ
@@ -54,7 +53,7 @@ module _ (test : ℕ → Bool) where
     turns_split (suc a) m k =
         let e : suc a + m ≡ suc (a + m) = omega arith in
         let f : k + suc a ≡ suc k + a = omega arith in
-        rw (e, f) (ap (pick (test (at k)) (SomeThread (at k))) (turns_split a m (suc k)) ∙ found_first (test (at k)) (at k) (turns test n start a (suc k)) (turns test n start m (suc k + a)))
+        rw (e, f) (ap (pick (test (at k)) (Some (at k))) (turns_split a m (suc k)) ∙ found_first (test (at k)) (at k) (turns test n start a (suc k)) (turns test n start m (suc k + a)))
 
     -- the places up to the row's end
     turns-before : (m k : ℕ) → start + k + m ≤ n → turns test n start m k ≡ first_from test m (start + k)
@@ -76,14 +75,14 @@ module _ (test : ℕ → Bool) where
         rw (e, t)
 
 -- what was looked over first need not be looked over again
-twice : (x y : ThreadOption) → or_else x y ≡ or_else x (or_else y x)
-twice (SomeThread t) y = refl
-twice NoThread (SomeThread t) = refl
-twice NoThread NoThread = refl
+twice : (x y : Option ℕ) → or_else x y ≡ or_else x (or_else y x)
+twice (Some t) y = refl
+twice None (Some t) = refl
+twice None None = refl
 
-with_none : (x : ThreadOption) → or_else x NoThread ≡ x
-with_none (SomeThread t) = refl
-with_none NoThread = refl
+with_none : (x : Option ℕ) → or_else x None ≡ x
+with_none (Some t) = refl
+with_none None = refl
 
 module _ (ts : List Thread) (p : ℕ) where
   abbrev test : ℕ → Bool
@@ -117,5 +116,5 @@ module _ (ts : List Thread) (p : ℕ) where
     where
       go : (b : Bool) → ltb start 32 ≡ b → cyclic ts p (pick b start 32) ≡ cyclic ts p start
       go true e = refl
-      go false e = ap (λ (x : ThreadOption). or_else x (first_from test 32 0))
+      go false e = ap (λ (x : Option ℕ). or_else x (first_from test 32 0))
           (first-far ts p 32 32 (omega (arith, n)) ∙ sym (first-far ts p 32 start (omega (arith, n, ltb-false start 32 e))))

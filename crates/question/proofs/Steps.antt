@@ -1,6 +1,7 @@
 -- One turn of each loop. Assumes nothing.
+use Rattle.std.specs.Prelude.{Option}
 use mathlib.Core.Path.{◌≡◌, refl, ap, sym, ◌∙◌}
-use mathlib.Core.Bool.{Bool, true, false, not}
+use mathlib.Core.Bool.{Bool, true, false, not, ◌&&◌}
 use mathlib.Core.Logic.{◌≢◌, inl, inr}
 use mathlib.Core.List.{List, [], ◌∷◌}
 use Prim.Native.Nat.{ℕ, zero, suc, ◌+◌, ◌-◌, ◌≤◌, ◌<◌}
@@ -8,14 +9,15 @@ use native.Mathlib.Numerals.{add-one}
 use native.Mathlib.Omega.{arith}
 use lib.Dec.{eqb, leb, ltb}
 use borrow.Author.Tests.{leb-true, leb-false, ltb-true, ltb-false, le-ltb, lt-leb, ne_eqb}
-use lib.ListN.{length, get_or, drop, drop_of_length-le}
+use lib.ListN.{length, get_or, drop, replicate, drop_of_length-le}
 use lib.Seq.{drop-cons}
 use Rattle.laws.specs.Logic.{pick_no, ◌and◌, and-true, and_no, and-end, and-false, and_assoc, lt-cases}
 use Rattle.laws.specs.Count.{one?}
-use Rattle.laws.specs.Tally.{bump, tally, tally-le}
+use Rattle.laws.specs.Tally.{bump, tally, tally_all, tally-le}
+use Rattle.laws.specs.Walk.{walk, ends?}
+use Rattle.question.specs.LinearObjects.{end_all?, walk_all, once_all?, shared_out?, chains_by?, fine_pool?}
 use Rattle.units.specs.declared.ObjectId.{ObjectId}
 use Rattle.types.specs.declared.thread.Thread.{Thread}
-use Rattle.types.specs.declared.thread.ThreadOption.{ThreadOption}
 use Rattle.types.specs.declared.thread.ThreadStatus.{ThreadStatus}
 use Rattle.types.specs.declared.thread.ThreadStatus.TheVariants.{Dead, Running, Ready, Sleeping, WaitSync, WaitArbiter, Dormant}
 use Rattle.types.specs.declared.object.HandleEntry.{HandleEntry}
@@ -27,11 +29,27 @@ use Rattle.sound.specs.Handles.{rising?, no_entries?}
 use Rattle.tally.specs.Lists.{slot_of, name_of, handle_names}
 use Rattle.question.specs.Linear.{one_place?, runs?, entry?}
 
+-- ---- tests joined by an operator that asks both
+pub eager-and : (a b : Bool) → a && b ≡ a and b
+unfolding ◌and◌
+eager-and true b = refl
+eager-and false b = refl
+
+pub eager-turn : (a b : Bool) → a && b ≡ b and a
+unfolding ◌and◌
+eager-turn true b = sym (and-end b)
+eager-turn false b = sym (and-false b)
+
 -- ---- faults counted: none so far, and what is still to look at
 pub fault-turn : (bad : ℕ) (p r : Bool) → eqb (bad + one? (not p)) 0 and r ≡ eqb bad 0 and (p and r)
 unfolding ◌and◌
 fault-turn bad true r = let e : bad + 0 ≡ bad = omega arith in rw e
 fault-turn bad false r = and_no _ _ (ne_eqb (bad + 1) 0 (omega arith)) ∙ sym (and-false (eqb bad 0))
+
+pub fault-more : (bad : ℕ) (p : Bool) → eqb (bad + one? (not p)) 0 ≡ p and eqb bad 0
+unfolding ◌and◌
+fault-more bad true = let e : bad + 0 ≡ bad = omega arith in rw e
+fault-more bad false = ne_eqb (bad + 1) 0 (omega arith)
 
 pub fault-small : (p : Bool) → one? (not p) ≤ 1
 fault-small true = omega arith
@@ -75,22 +93,6 @@ pub places-end : (l : List ObjectId) (n : ℕ) → length l ≤ wait_list → pl
 places-end l n h = rw (drop_of_length-le l h) (places-end_as n (leb n wait_list) refl)
 
 -- ---- the handles
-and-four : (a b c d e : Bool) → a and (b and (c and (d and e))) ≡ (a and (b and (c and d))) and e
-unfolding ◌and◌
-and-four true true true d e = refl
-and-four true true false d e = refl
-and-four true false c d e = refl
-and-four false b c d e = refl
-
--- four numbers of a list that is all zero
-pub four_zeros : (a b c d : ℕ) (l : List ℕ) → zeros? (a ∷ b ∷ c ∷ d ∷ l) ≡ (eqb a 0 and (eqb b 0 and (eqb c 0 and eqb d 0))) and zeros? l
-unfolding zeros?
-four_zeros a b c d l = and-four (eqb a 0) (eqb b 0) (eqb c 0) (eqb d 0) (zeros? l)
-
-pub two_zeros : (a b : ℕ) → zeros? (a ∷ b ∷ []) ≡ eqb a 0 and eqb b 0
-unfolding zeros?
-two_zeros a b = ap (λ t. eqb a 0 and t) (and-end (eqb b 0))
-
 -- handles from past the next one on do not come to their end
 rising-over : (n low next : ℕ) (es : List HandleEntry) → next < low → rising? n low es next ≡ false
 unfolding rising? ◌and◌
@@ -176,7 +178,7 @@ pub below-held : (ts : List Thread) (i : ℕ) → i < length ts → (n : ℕ) �
 below-held ts i h n = ap (below? n) (held-step ts i h) ∙ below_if n (is_dead (get_or ts i no_thread).status) (get_or ts i no_thread).tls (held (drop (i + 1) ts))
 
 -- ---- who may run
-pub runs-is : (s : ThreadStatus) (c : ThreadOption) (i : ℕ) → runs? s (is_current c i) ≡ run? s c i
+pub runs-is : (s : ThreadStatus) (c : Option ℕ) (i : ℕ) → runs? s (is_current c i) ≡ run? s c i
 runs-is Dead c i = refl
 runs-is Running c i = refl
 runs-is Ready c i = refl
@@ -184,3 +186,10 @@ runs-is Sleeping c i = refl
 runs-is WaitSync c i = refl
 runs-is WaitArbiter c i = refl
 runs-is Dormant c i = refl
+
+-- ---- records, where the chains end
+pub pool-ends : (nx ts ad : List ℕ) (n : ℕ) (hs : List ℕ) (free : ℕ) → end_all? nx hs ≡ true
+    → fine_pool? nx ts ad n hs free
+    ≡ (ends? nx 64 free and once_all? (tally 129 (tally_all 129 (replicate 129 0) (walk_all nx hs)) (walk nx 64 free)) 64) and chains_by? nx ts ad n hs 128
+unfolding fine_pool? shared_out? ◌and◌
+pool-ends nx ts ad n hs free e = rw e

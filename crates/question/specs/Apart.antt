@@ -8,6 +8,8 @@ use Rattle.laws.specs.Count.{at}
 use Rattle.laws.specs.Walk.{walk, ends?, walk-nil, walk-go}
 use Rattle.sound.specs.Records.{has?, chain?}
 use Rattle.laws.specs.Tally.{bump}
+use Rattle.question.specs.declared.chains.Marks.{Marks}
+use Rattle.question.specs.declared.chains.Marks.TheVariants.{Broken, Shared, Apart}
 use Rattle.question.specs.LinearObjects.{new?, lone?}
 use Rattle.question.specs.ObjectSteps.{mark_nil, mark_go}
 
@@ -24,27 +26,27 @@ apart? n ts s k [] = true
 apart? n ts s k (i ∷ l) = (ltb (at ts i) n and fresh? s (at ts i) k) and apart? n ts (marked s (at ts i) k) k l
 
 -- a walk that does not end, one that meets each thread once, any other
-unfoldable pub outcome : Bool → Bool → ℕ
-outcome false a = 0
-outcome true true = 1
-outcome true false = 2
+unfoldable pub outcome : Bool → Bool → Marks
+outcome false a = Broken
+outcome true true = Apart
+outcome true false = Shared
 
-pub outcome_open : (e a : Bool) → outcome e a ≡ 0 → e ≡ false
+pub outcome_open : (e a : Bool) → outcome e a ≡ Broken → e ≡ false
 unfolding outcome
 outcome_open false a h = refl
-outcome_open true true h = absurd (omega arith)
-outcome_open true false h = absurd (omega arith)
+outcome_open true true h = cc
+outcome_open true false h = cc
 
-pub outcome-ends : (e a : Bool) → outcome e a ≢ 0 → e ≡ true
+pub outcome-ends : (e a : Bool) → outcome e a ≢ Broken → e ≡ true
 unfolding outcome
 outcome-ends false a h = absurd (h refl)
 outcome-ends true a h = refl
 
-pub outcome-apart : (e a : Bool) → outcome e a ≡ 1 → a ≡ true
+pub outcome-apart : (e a : Bool) → outcome e a ≡ Apart → a ≡ true
 unfolding outcome
-outcome-apart false a h = absurd (omega arith)
+outcome-apart false a h = cc
 outcome-apart true true h = refl
-outcome-apart true false h = absurd (omega arith)
+outcome-apart true false h = cc
 
 pub length_marked : (s : List ℕ) (t k : ℕ) → length (marked s t k) ≡ length s
 unfolding marked
@@ -110,7 +112,7 @@ module _ (n : ℕ) (nx ts s m : List ℕ) (k left h : ℕ) (b : Bool) where
       let f : b and apart? n ts s k (walk nx left h) ≡ b = rw (walk-nil nx left h e) (and-end b) in
       λ i. outcome (sym (lone_nil nx m left h e) i) (sym f i)
 
-  pub code_open : lone? nx m left h ≡ false → 0 ≡ outcome (lone? nx m left h) (b and apart? n ts s k (walk nx left h))
+  pub code_open : lone? nx m left h ≡ false → Broken ≡ outcome (lone? nx m left h) (b and apart? n ts s k (walk nx left h))
   unfolding outcome
   code_open e = ap (λ (t : Bool). outcome t (b and apart? n ts s k (walk nx left h))) (sym e)
 

@@ -1,4 +1,5 @@
 -- Question 2 as it is computed, and that it is the test of its definition.
+pub mod Turns
 pub mod Linear
 pub mod SameTls
 pub mod Apart

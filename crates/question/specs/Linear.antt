@@ -1,9 +1,8 @@
 -- Question 2 as it is computed: names, chains and TLS slots are counted once into arrays.
-use Rattle.std.specs.Prelude.{Bool, true, false, not, List, ℕ, ◌-◌, eqb, leb, ltb, get_or}
+use Rattle.std.specs.Prelude.{Bool, true, false, not, List, ℕ, ◌-◌, eqb, leb, ltb, get_or, Option}
 use Rattle.laws.specs.Logic.{◌and◌}
 use Rattle.laws.specs.Count.{at}
 use Rattle.laws.specs.Numbers.{all_to, all_below}
-use Rattle.types.specs.declared.thread.ThreadOption.{ThreadOption}
 use Rattle.types.specs.declared.thread.ThreadStatus.{ThreadStatus}
 use Rattle.types.specs.declared.thread.ThreadStatus.TheVariants.{Dead, Running, Ready, Sleeping, WaitSync, WaitArbiter, Dormant}
 use Rattle.types.specs.declared.thread.Thread as th
@@ -25,7 +24,7 @@ runs? WaitSync c = true
 runs? WaitArbiter c = true
 runs? Dormant c = true
 
-unfoldable pub places32? : ℕ → ThreadOption → List th.Thread → Bool
+unfoldable pub places32? : ℕ → Option ℕ → List th.Thread → Bool
 places32? n c ts = all_below 32 (λ i. place? n c i (thread_at ts i))
 
 -- no count of the first 32 is above 1

@@ -1,5 +1,5 @@
 -- The tests of objects and records as they are computed are those of their definitions.
-use Rattle.std.specs.Prelude.{◌≡◌, Bool, true, false, not, leb}
+use Rattle.std.specs.Prelude.{◌≡◌, Bool, true, false, not, leb, Option, Some, None}
 use Rattle.std.proofs.Math.Path.{refl, ap}
 use Rattle.std.proofs.Common.{sym, ◌∙◌}
 use Rattle.std.proofs.Math.Logic.{inl, inr}
@@ -11,15 +11,13 @@ use Rattle.std.proofs.Math.ListN.{length, get_or, replicate, length-map, get_or-
 use borrow.Author.Tests.{ne_eqb, le-leb, lt-leb, le-ltb}
 use Rattle.laws.specs.Logic.{◌and◌, ◌or◌, and_assoc, lt-cases}
 use Rattle.laws.specs.All.{All}
-use Rattle.laws.specs.Count.{at, count, count_all, ind, ind-other, one?}
-use Rattle.laws.specs.Numbers.{all_to, all_to-same}
+use Rattle.laws.specs.Count.{count, count_all, ind, ind-other}
+use Rattle.laws.specs.Numbers.{all_to-same}
 use Rattle.laws.specs.Walk.{walk, ends?, walk-length}
 use Rattle.laws.specs.Tally.{tally, tally_all, bump_get, length-tally, tally_get, tally-le, length-tally_all, tally_all_get, tally_all-le, zero_get, zero-le}
 use Rattle.laws.specs.StoreTest as store
 use Rattle.laws.specs.PoolTest.{walks, end?, pool?}
 use Rattle.units.specs.declared.ObjectId.{ObjectId}
-use Rattle.types.specs.declared.thread.ThreadOption.{ThreadOption}
-use Rattle.types.specs.declared.thread.ThreadOption.TheVariants.{NoThread, SomeThread}
 use Rattle.types.specs.declared.thread.Thread as th
 use Rattle.types.specs.declared.object.KObject.{KObject}
 use Rattle.types.specs.declared.object.KObject.TheVariants.{Free, Thread, Event, Mutex, Semaphore, Timer, AddressArbiter, Process, ResourceLimit}
@@ -40,7 +38,7 @@ use Rattle.tally.specs.Lists as list
 use Rattle.tally.specs.Lists.{Listed, name_of, handle_names, list_names}
 use Rattle.question.specs.Linear.{slot?, slots?}
 use Rattle.tally.specs.Place.{slot_index}
-use Rattle.question.specs.LinearObjects.{named_of, named, counts_of, marks_of, kept_thread?, kept_process?, indexed, kept_threads?, kept_by?, objects_by?, dead_mark, dead_marks, live?, owner_by?, content_by?, contents_by?, end_all?, walk_all, once_all?, shared_out?, chains_by?, fine_pool?, records_by?, tables?, store?}
+use Rattle.question.specs.LinearObjects.{named_of, named, counts_of, marks_of, kept_thread?, kept_process?, indexed, kept_threads?, kept_by?, objects_by?, dead_marks, live?, owner_by?, content_by?, contents_by?, end_all?, walk_all, once_all?, shared_out?, chains_by?, fine_pool?, records_by?, tables?, store?}
 
 -- ---- a number that names no object is counted nowhere
 module _ (o : ℕ) (p : 0 < o) (q : o ≤ 128) where
@@ -192,17 +190,13 @@ unfolding objects_by? kept_in?
 objects-same s t ts ns ne nt a nk = rw (held_same s t ts ns ne nt a nk, kept_same s ns) (and_assoc (kept_in? s) (held? s (names t ts)) (kept? s))
 
 -- ---- contents
-not_mark : (b : Bool) → eqb (one? b) 0 ≡ not b
-not_mark true = refl
-not_mark false = refl
-
 live_same : (ts : List th.Thread) (t : ℕ) → live? (dead_marks ts) t ≡ not (is_dead (thread_at ts t).status)
 unfolding live?
-live_same ts t = ap (λ (k : ℕ). eqb k 0) (get_or-map (λ (x : th.Thread). dead_mark x.status) ts t no_thread) ∙ not_mark (is_dead (thread_at ts t).status)
+live_same ts t = ap not (get_or-map (λ (x : th.Thread). is_dead x.status) ts t no_thread)
 
-owner-same : (ts : List th.Thread) (w : ThreadOption) → owner_by? (dead_marks ts) w ≡ owner? ts w
-owner-same ts NoThread = refl
-owner-same ts (SomeThread t) = live_same ts t
+owner-same : (ts : List th.Thread) (w : Option ℕ) → owner_by? (dead_marks ts) w ≡ owner? ts w
+owner-same ts None = refl
+owner-same ts (Some t) = live_same ts t
 
 content-same : (n : ℕ) (ts : List th.Thread) (o : KObject) → content_by? n (dead_marks ts) o ≡ content? n ts o
 content-same n ts (Free x) = refl

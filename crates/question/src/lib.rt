@@ -1,9 +1,8 @@
-// Question 2 on a block that is the encoding of what it decodes to: whether the state is sound. The block is read where it lies; the
-// slots are read once, into columns of numbers.
+// Question 2 on a block that is the encoding of what it decodes to: whether the state is sound. The block is read
+// where it lies; the slots are read once, into columns of numbers.
 #![tactic(auto)]
 
 pub mod chains;
-pub mod faults;
 pub mod handles;
 pub mod names;
 pub mod objects;
@@ -11,7 +10,7 @@ pub mod records;
 pub mod threads;
 pub mod tls;
 
-ghost use Rattle.std.specs.Prelude.{◌≡◌, true, length, replicate};
+ghost use Rattle.std.specs.Prelude.{◌≡◌, true, replicate};
 ghost use Rattle.laws.specs.Tally.{bump, tally, tally_all};
 ghost use Rattle.block.specs.Block.{dec_block};
 ghost use Rattle.block.specs.Tables.{threads_in, entries_in, kept_in};
@@ -19,12 +18,13 @@ ghost use Rattle.sound.specs.Sound.{state?};
 ghost use Rattle.tally.specs.Lists.{names, handle_names, list_names};
 ghost use Rattle.question.specs.LinearObjects.{tables?, store?};
 
+use crate::objects::Columns;
+use block::Block;
 use units::{Handle, ObjectId};
 
-// Threads, TLS slots and handles; one more in c for each object that a handle or a list names. If they are not sound, c
-// is left open: the block is refused then, and c is not read.
-fn tables_ok(b: &[u8], c: &mut [u32; 129]) -> bool
-    requires b_len { length b.now ≡ 16384 }
+// Threads, TLS slots and handles; one more in c for each object that a handle or a list names. If they are not sound,
+// c is left open: the block is refused then, and c is not read.
+fn tables_ok(b: &Block, c: &mut [u32; 129]) -> bool
     requires c_value { c.old ≡ replicate 129 0 }
     ensures value { result ≡ tables? (dec_block b.now) }
     ensures c_after { result ≡ true → c.new ≡ tally_all 129 (tally 129 c.old (handle_names (entries_in b.now))) (list_names (threads_in b.now)) }
@@ -33,54 +33,42 @@ fn tables_ok(b: &[u8], c: &mut [u32; 129]) -> bool
     let p = head.a;
     let q = head.b;
     let r = head.c;
-    let current = types::thread::thread_option(p.2, p.3);
+    let current = types::thread::option_of(p.2, p.3);
     if !handles::handles_ok(b, c, r.2, Handle(r.3)) {
         return false;
     }
     names::tally_lists(c, b);
-    if !threads::threads_ok(p.1, current, b) {
-        return false;
-    }
-    tls::tls_ok(b, q.0)
+    threads::threads_ok(p.1, current, b) && tls::tls_ok(b, q.0)
 }
 
-// Objects, what they name, and records of arbiters, where c has the names of handles and of lists. c afterwards is left
-// open, since it is not read any more.
-fn store_ok(b: &[u8], c: &mut [u32; 129]) -> bool
-    requires { length b.now ≡ 16384 }
+// Objects, what they name, and records of arbiters, where c has the names of handles and of lists. c afterwards is
+// left open, since it is not read any more.
+fn store_ok(b: &Block, c: &mut [u32; 129]) -> bool
     ensures { result ≡ store? (dec_block b.now) (bump 129 (tally 129 c.old (names (kept_in b.now))) (dec_block b.now).objects.process_object.0) }
 {
     let head = block::get_head(b);
-    let p = head.a;
+    let n = head.a.1;
     let r = head.c;
-    let s = head.d;
-    let n = p.1;
-    let process = ObjectId(s.0);
+    let process = ObjectId(head.d.0);
     names::tally_kept(c, b);
-    tally::bump_at(c, s.0);
-    let mut ks = [0u32; 128];
-    let mut rs = [0u32; 128];
-    let mut ns = [0u32; 128];
-    let mut hs = [0u32; 128];
-    let mut named = [0u32; 128];
+    tally::bump_at(c, process.0);
+    let mut s = Columns {
+        kinds: [0; 128],
+        refs: [0; 128],
+        nexts: [0; 128],
+        heads: [0; 128],
+        named: [0; 128],
+    };
     let d = objects::dead_marks(b);
-    let contents = objects::columns(b, n, &d, &mut ks, &mut rs, &mut ns, &mut hs, &mut named);
-    if !objects::objects_ok(&ks, &rs, &ns, &named, r.0, c, b, process) {
-        return false;
-    }
-    if !contents {
-        return false;
-    }
-    records::records_ok(n, &hs, b, r.1)
+    let contents = objects::read_columns(b, n, &d, &mut s);
+    contents
+        && objects::objects_ok(&s, r.0, c, b, process)
+        && records::records_ok(n, &s.heads, b, r.1)
 }
 
-pub fn state_ok(b: &[u8]) -> bool
-    requires { length b.now ≡ 16384 }
+pub fn state_ok(b: &Block) -> bool
     ensures { result ≡ state? (dec_block b.now) }
 {
     let mut c = [0u32; 129];
-    if !tables_ok(b, &mut c) {
-        return false;
-    }
-    store_ok(b, &mut c)
+    tables_ok(b, &mut c) && store_ok(b, &mut c)
 }

@@ -3,47 +3,39 @@
 
 pub mod quiet;
 
-ghost use Rattle.std.specs.Prelude.{◌≡◌, [], length};
+ghost use Rattle.std.specs.Prelude.{◌≡◌, []};
+ghost use Rattle.types.specs.Refusal.{found_in};
 ghost use Rattle.lent.specs.Lent.{lent, back};
 ghost use Rattle.lent.specs.Operations as def;
 
 use codec::Two;
 use lent::questions;
 use pass::Release;
+use types::refusal::Refusal;
 use units::{Handle, Ticks};
 
-fn release_flag(r: Release) -> u32
+fn release_flag(r: Option<Release>) -> u32
     ensures { result ≡ def.release_flag r }
 {
-    match r {
-        Release::NotQuiet => 0,
-        Release::CountsDown(_o) => 1,
-        Release::Frees(_o) => 1,
-    }
+    r.is_some() as u32
 }
 
-fn release_object(r: Release) -> u32
+fn release_object(r: Option<Release>) -> u32
     ensures { result ≡ def.release_object r }
 {
     match r {
-        Release::NotQuiet => 0,
-        Release::CountsDown(o) => o.0,
-        Release::Frees(o) => o.0,
+        None => 0,
+        Some(Release::CountsDown(o) | Release::Frees(o)) => o.0,
     }
 }
 
-fn release_frees(r: Release) -> u32
+fn release_frees(r: Option<Release>) -> u32
     ensures { result ≡ def.release_frees r }
 {
-    match r {
-        Release::NotQuiet => 0,
-        Release::CountsDown(_o) => 0,
-        Release::Frees(_o) => 1,
-    }
+    matches!(&r, Some(Release::Frees(_))) as u32
 }
 
-fn put_release(answer: &mut [u8], r: Release)
-    requires { length answer.old ≡ 12 }
+fn put_release(answer: &mut [u8; 12], r: Option<Release>)
     ensures { answer.new ≡ def.release_bytes r }
 {
     let flag = release_flag(r);
@@ -53,22 +45,32 @@ fn put_release(answer: &mut [u8], r: Release)
     codec::put32(answer, 8, frees);
 }
 
+// The same with the refusal itself.
+fn look(block: &[u8], answer: &mut [u8], handle: Handle, tick: Ticks) -> Result<(), Refusal>
+    ensures { back (found_in result) (lent block.now [] [] [] answer.new) ≡ def.quiet_release handle.0 tick.0 (lent block.now [] [] [] answer.old) }
+{
+    let Some(block) = block.as_array::<16384>() else {
+        return Err(Refusal::Length);
+    };
+    let Some(answer) = answer.as_mut_array::<12>() else {
+        return Err(Refusal::Length);
+    };
+    if !questions::block_ok(block) {
+        return Err(Refusal::Unsound);
+    }
+    if outcome::out_of_handles(block) {
+        return Err(Refusal::Overflow);
+    }
+    put_release(answer, quiet::quiet_release(block, handle, tick));
+    Ok(())
+}
+
 // The mutex that the handle lets go of, and whether that frees it, if no pass is needed after it.
 pub fn operate(block: &[u8], answer: &mut [u8], handle: Handle, tick: Ticks) -> u32
     ensures { back result (lent block.now [] [] [] answer.new) ≡ def.quiet_release handle.0 tick.0 (lent block.now [] [] [] answer.old) }
 {
-    if block.len() != 16384 {
-        return 1;
+    match look(block, answer, handle, tick) {
+        Ok(()) => 0,
+        Err(refusal) => u32::from(refusal),
     }
-    if answer.len() != 12 {
-        return 1;
-    }
-    if !questions::block_ok(block) {
-        return 2;
-    }
-    if outcome::out_of_handles(block) {
-        return 8;
-    }
-    put_release(answer, quiet::quiet_release(block, handle, tick));
-    0
 }

@@ -1,9 +1,10 @@
-// An object let go in the block where it lies (`release` of object.rs). A block in mid-operation may have counts that are not
-// right yet, so it need not be sound here, only the encoding of a state.
+// An object let go in the block where it lies (`release` of object.rs). A block in mid-operation may have counts that
+// are not right yet, so it need not be sound here, only the encoding of a state.
 #![tactic(auto)]
 
-ghost use Rattle.std.specs.Prelude.{◌≡◌, false, ◌-◌, ◌<◌, length, take};
+ghost use Rattle.std.specs.Prelude.{◌≡◌, ◌≤◌, false, length, take};
 ghost use Rattle.laws.specs.Walk.{walk};
+ghost use Rattle.types.specs.Thread.{wait_list};
 ghost use Rattle.block.specs.Block.{dec_block};
 ghost use Rattle.sound.specs.View.{ids, slot_at, waiter_nexts};
 ghost use Rattle.object.specs.Waiters.{unlink};
@@ -12,7 +13,7 @@ ghost use Rattle.thread.specs.Threads.{with_threads};
 ghost use Rattle.rows.specs.Holds.{Holds, with_waiters};
 ghost use Rattle.release.specs.Encoded.{Encoded};
 
-use block::{Head, table};
+use block::{Block, Head, record};
 use codec::Four;
 use object::waiters;
 use rows::{read, write};
@@ -21,8 +22,7 @@ use types::thread::WAIT_LIST;
 use units::ObjectId;
 
 // The records of the chain from first are free again, in front of the free chain. Gives the first free record then.
-fn free_records(block: &mut [u8], first: u32, free: u32) -> u32
-    requires block_len { length block.old ≡ 16384 }
+fn free_records(block: &mut Block, first: u32, free: u32) -> u32
     requires encoded { Encoded block.old }
     ensures value { result ≡ (unlink (λ _. false) (dec_block block.old).objects.waiters free (walk (waiter_nexts (dec_block block.old).objects.waiters) 64 first)).free }
     ensures holds { Holds block.new (with_threads (dec_block block.old) (dec_block block.old).threads (with_waiters (dec_block block.old).objects (unlink (λ _. false) (dec_block block.old).objects.waiters free (walk (waiter_nexts (dec_block block.old).objects.waiters) 64 first)).waiters)) }
@@ -30,90 +30,77 @@ fn free_records(block: &mut [u8], first: u32, free: u32) -> u32
     if first == 0 {
         return free;
     }
-    let ws = table::get_waiters(block, 12416);
-    let u = waiters::free_chain(ws, first, free);
-    let l = u.waiters;
-    table::put_waiters(block, 12416, l);
+    let mut ws = record::read_all(block, 12416);
+    let u = waiters::unlink(&mut ws, None, first, 64, free);
+    record::write_all(block, 12416, &ws);
     u.free
 }
 
 // The last holder of the object o, whose slot has old, goes. The mark stays with the slot.
-fn free_slot(block: &mut [u8], o: ObjectId, old: Slot)
-    requires block_len { length block.old ≡ 16384 }
+fn free_slot(block: &mut Block, o: ObjectId, old: Slot)
     requires encoded { Encoded block.old }
     requires value { old ≡ slot_at (dec_block block.old).objects.slots o.0 }
     ensures { Holds block.new (with_threads (dec_block block.old) (dec_block block.old).threads (def.release_if false (dec_block block.old).objects o.0)) }
 {
     let head = block::get_head(block);
-    let p = head.a;
-    let q = head.b;
     let c = head.c;
-    let d = head.d;
-    let x = old.object;
-    let mark = old.pulsed;
-    let free = free_records(block, types::object::head_of(x), c.1);
+    let free = free_records(block, types::object::head_of(old.object), c.1);
     write::put_slot(
         block,
         o,
         Slot {
             object: KObject::Free(c.0),
             refcount: 0,
-            pulsed: mark,
+            ..old
         },
     );
     write::put_head(
         block,
         Head {
-            a: p,
-            b: q,
             c: Four(o.0, free, c.2, c.3),
-            d: d,
+            ..head
         },
     );
 }
 
 // One holder less; with the last the slot is free, and so are an arbiter's records. A dead slot has no holder to lose.
-pub fn release(block: &mut [u8], o: ObjectId)
-    requires block_len { length block.old ≡ 16384 }
+pub fn release(block: &mut Block, o: ObjectId)
     requires encoded { Encoded block.old }
     ensures block_after { dec_block block.new ≡ with_threads (dec_block block.old) (dec_block block.old).threads (def.release (dec_block block.old).objects o.0) }
     ensures encoded_2 { Encoded block.new }
 {
     let old = read::slot_at(block, o);
-    let x = old.object;
-    if types::object::is_free(x) {
+    if types::object::is_free(old.object) {
         return;
     }
-    let n = old.refcount;
-    if n < 2 {
-        free_slot(block, o, old);
-        return;
+    if old.refcount < 2 {
+        return free_slot(block, o, old);
     }
     write::put_slot(
         block,
         o,
         Slot {
-            object: x,
-            refcount: n - 1,
-            pulsed: old.pulsed,
+            refcount: old.refcount - 1,
+            ..old
         },
     );
 }
 
-// The first n of a list, in order.
-pub fn release_list(block: &mut [u8], l: [ObjectId; WAIT_LIST], n: u32)
-    requires block_len { length block.old ≡ 16384 }
+// The first n of a wait's list. In mid-operation a thread's count may be more than the places.
+pub fn first_of(list: &[ObjectId; WAIT_LIST], n: u32) -> &[ObjectId]
+    ensures value { ids result.now ≡ take n (ids list.now) }
+    ensures short { length result.now ≤ wait_list }
+{
+    &list[..(n as usize).min(WAIT_LIST)]
+}
+
+// Each of a list, in order.
+pub fn release_list(block: &mut Block, list: &[ObjectId])
     requires encoded { Encoded block.old }
-    ensures block_after { dec_block block.new ≡ with_threads (dec_block block.old) (dec_block block.old).threads (def.releases (dec_block block.old).objects (take n (ids l))) }
+    ensures block_after { dec_block block.new ≡ with_threads (dec_block block.old) (dec_block block.old).threads (def.releases (dec_block block.old).objects (ids list.now)) }
     ensures encoded_2 { Encoded block.new }
 {
-    let mut i: usize = 0;
-    while i < WAIT_LIST {
-        if n <= i as u32 {
-            return;
-        }
-        let o = l[i];
-        release(block, o);
-        i += 1;
+    for o in list {
+        release(block, *o);
     }
 }

@@ -1,11 +1,10 @@
-// Replays a recorded sample of what the original answers on the operations of the exports. The record is the program's standard input: for each
-// operation the number that the original gave, and a hash of the answer slice and of everything lent after it.
+// Replays a recorded sample of what the original answers on the operations of the exports. The record is the program's
+// standard input: for each operation the number that the original gave, and a hash of the answer slice and of
+// everything lent after it.
 #![tactic(auto)]
 
-mod calls;
 mod replay;
 
-use sample::tally;
 use std::io::{self, Read};
 
 // Of a longer record only this many bytes are read.
@@ -14,7 +13,6 @@ const MOST: u64 = 262144;
 fn main(rt: HostRuntime) -> io::Result<()> {
     let mut text = Vec::new(rt.alloc());
     rt.reader().take(MOST).read_to_end(&mut text)?;
-    let mut counts = [0u32; 32];
-    tally::print(&rt, replay::replay(&text, &mut counts))?;
-    tally::print_counts(&rt, &counts)
+    let tally = replay::replay(&text);
+    print!(rt; "{tally}")
 }

@@ -7,3 +7,4 @@ pub mod Holds
 pub mod Head
 pub mod Mapped
 pub mod Slots
+pub mod Place

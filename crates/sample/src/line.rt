@@ -1,48 +1,30 @@
 // One line of the record: a letter, then words in hexadecimal with a space before each.
 
+// The letter, and the words; the letter itself has the place of word 0.
+#[derive(Clone, Copy)]
+pub struct Line {
+    pub kind: u8,
+    pub words: [u32; 16],
+}
+
 // What a hexadecimal digit says. Any other byte says 0.
 fn digit(c: u8) -> u32 {
-    if c >= 48 && c <= 57 {
-        return c as u32 - 48;
-    }
-    if c >= 97 && c <= 102 {
-        return c as u32 - 87;
-    }
-    0
-}
-
-fn clear(words: &mut [u32; 16]) {
-    let mut i = 0;
-    while i < 16 {
-        words[i] = 0;
-        i += 1;
+    match c {
+        b'0'..=b'9' => u32::from(c - b'0'),
+        b'a'..=b'f' => u32::from(c - b'a') + 10,
+        _ => 0,
     }
 }
 
-// One byte of the line, in word k. Gives the word that the next byte belongs to.
-fn take(c: u8, k: usize, words: &mut [u32; 16]) -> usize {
-    if k >= 16 {
-        return k;
-    }
-    if c == b' ' {
-        return k + 1;
-    }
-    words[k] = words[k] << 4 | digit(c);
-    k
-}
-
-// The words of the line that starts at from; the letter is in word 0. Gives where the next line starts.
-pub fn read(text: &[u8], from: usize, words: &mut [u32; 16]) -> usize {
-    clear(words);
-    let mut at = from;
-    let mut k = 0;
-    while at < text.len() {
-        let c = text[at];
-        at += 1;
-        if c == b'\n' {
-            return at;
+impl Line {
+    // The text ends with the line's end, or with the record's. Words after the sixteenth are passed over.
+    pub fn parse(text: &[u8]) -> Line {
+        let kind = text.first().copied().unwrap_or(b'\n');
+        let text = text.strip_suffix(b"\n").unwrap_or(text);
+        let mut words = [0u32; 16];
+        for (word, digits) in words.iter_mut().zip(text.split(|c| *c == b' ')) {
+            *word = digits.iter().fold(0u32, |n, c| n << 4 | digit(*c));
         }
-        k = take(c, k, words);
+        Line { kind, words }
     }
-    at
 }

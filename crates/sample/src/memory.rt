@@ -1,86 +1,76 @@
 // What the host lends, as lines of the record set it.
-ghost use Rattle.std.specs.Prelude.{◌≤◌};
-
 use crate::fnv;
+use crate::line::Line;
 
-pub fn least(n: u32, most: usize) -> usize
-    ensures { result ≤ most }
-{
-    let n = n as usize;
-    if n > most {
-        return most;
-    }
-    n
+#[derive(Drop)]
+pub struct Lent {
+    pub block: [u8; 16384],
+    pub bank: [u8; 6656],
+    pub processor: [u8; 208],
+    pub window: [u8; 256],
+    // Where the guest window lies, and how much of it is lent.
+    pub base: u32,
+    pub len: u32,
 }
 
 // A word at this place, if there is room for it.
 pub fn store(bytes: &mut [u8], at: u32, word: u32) {
-    let i = at as usize;
-    if bytes.len() < 4 {
-        return;
-    }
-    if i > bytes.len() - 4 {
-        return;
-    }
-    codec::put32(bytes, i, word);
-}
-
-// r0 to r5, which stand from word 4 on.
-pub fn put_registers(words: &[u32; 16], processor: &mut [u8]) {
-    store(processor, 0, words[4]);
-    store(processor, 4, words[5]);
-    store(processor, 8, words[6]);
-    store(processor, 12, words[7]);
-    store(processor, 16, words[8]);
-    store(processor, 20, words[9]);
-}
-
-// The hash of the answer slice continued over everything lent.
-pub fn hash_lent(h: u32, block: &[u8], bank: &[u8], processor: &[u8], window: &[u8]) -> u32 {
-    let h = fnv::hash(h, block);
-    let h = fnv::hash(h, bank);
-    let h = fnv::hash(h, processor);
-    fnv::hash(h, window)
-}
-
-// p AREA PLACE WORD: the host, or an operation that the library does not have, changed a word.
-pub fn set_word(
-    words: &[u32; 16],
-    block: &mut [u8],
-    bank: &mut [u8],
-    processor: &mut [u8],
-    window: &mut [u8],
-) {
-    if words[1] == 0 {
-        store(block, words[2], words[3]);
-    } else if words[1] == 1 {
-        store(bank, words[2], words[3]);
-    } else if words[1] == 2 {
-        store(processor, words[2], words[3]);
-    } else {
-        store(window, words[2], words[3]);
+    let at = at as usize;
+    if 4 <= bytes.len() && at <= bytes.len() - 4 {
+        codec::put32(bytes, at, word);
     }
 }
 
-// Where the guest window lies and how long it is.
-#[derive(Clone, Copy)]
-pub struct Window(pub u32, pub u32);
-
-// w BASE LENGTH: the host lends another window. A sequence starts with none.
-pub fn placed(kind: u8, words: &[u32; 16], w: Window) -> Window {
-    if kind == b'w' {
-        return Window(words[1], words[2]);
+impl Lent {
+    // Zeros in everything.
+    pub fn new() -> Lent {
+        Lent {
+            block: [0; 16384],
+            bank: [0; 6656],
+            processor: [0; 208],
+            window: [0; 256],
+            base: 0,
+            len: 0,
+        }
     }
-    if kind == b'r' {
-        return Window(0, 0);
-    }
-    w
-}
 
-// A sequence starts with zeros in everything.
-pub fn clear_lent(block: &mut [u8], bank: &mut [u8], processor: &mut [u8], window: &mut [u8]) {
-    codec::put_zeros(block, 0, block.len());
-    codec::put_zeros(bank, 0, bank.len());
-    codec::put_zeros(processor, 0, processor.len());
-    codec::put_zeros(window, 0, window.len());
+    // r0 to r5, which stand from word 4 on.
+    pub fn put_registers(&mut self, line: &Line) {
+        for i in 0..6u32 {
+            store(&mut self.processor, i * 4, line.words[4 + i as usize]);
+        }
+    }
+
+    // The hash of the answer slice continued over everything lent.
+    pub fn hash(&self, h: u32) -> u32 {
+        let h = fnv::hash(h, &self.block);
+        let h = fnv::hash(h, &self.bank);
+        let h = fnv::hash(h, &self.processor);
+        fnv::hash(h, &self.window)
+    }
+
+    // What a line that names no operation does. Gives whether the line is such a one.
+    pub fn set(&mut self, line: &Line) -> bool {
+        let words = line.words;
+        match line.kind {
+            // p AREA PLACE WORD: the host, or an operation that the library does not have, changed a word.
+            b'p' => match words[1] {
+                0 => store(&mut self.block, words[2], words[3]),
+                1 => store(&mut self.bank, words[2], words[3]),
+                2 => store(&mut self.processor, words[2], words[3]),
+                _ => store(&mut self.window, words[2], words[3]),
+            },
+            // r PROFILE SEED: a sequence starts, with zeros in everything and no window.
+            b'r' => *self = Lent::new(),
+            // w BASE LENGTH: the host lends another window.
+            b'w' => {
+                self.window = [0; 256];
+                self.base = words[1];
+                self.len = words[2];
+            }
+            b'#' => {}
+            _ => return false,
+        }
+        true
+    }
 }

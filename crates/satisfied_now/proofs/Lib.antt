@@ -1,3 +1,2 @@
 -- The laws that the proofs of `satisfied_now` cite.
 pub mod Open
-pub mod Wide

@@ -1,10 +1,15 @@
--- A list of handles: one more opened, and the cases of what a wait on it finds. Assumes nothing.
-use mathlib.Core.Path.{◌≡◌, ◌∙◌}
+-- A list of handles: one more opened, whether one names no object, and the cases of what a wait on it finds.
+-- Assumes nothing.
+use Rattle.std.specs.Prelude.{Some, ◌||◌}
+use Rattle.std.specs.List.{list_any}
+use Rattle.std.proofs.lemmas.List.{take-map}
+use mathlib.Core.Path.{◌≡◌, refl, ◌∙◌}
 use mathlib.Core.Bool.{Bool, true, false}
 use mathlib.Core.List.{List, [], ◌∷◌, ◌++◌, map, map-append}
 use Prim.Native.Nat.{ℕ, ◌+◌, ◌*◌, ◌≤◌, ◌<◌}
 use native.Mathlib.Nat.{zero-add}
 use native.Mathlib.Omega.{arith}
+use lib.Dec.{eqb}
 use lib.ListN.{length, take, drop, set, length-map}
 use borrow.Author.Tests.{lt-ltb, le-ltb}
 use Rattle.laws.specs.Logic.{◌or◌}
@@ -14,7 +19,8 @@ use Rattle.codec.proofs.Rows.{dec_all-more}
 use Rattle.codec.proofs.Fit.{length-dec_all}
 use Rattle.units.specs.declared.ObjectId.{ObjectId}
 use Rattle.types.specs.declared.kernel.Kernel.{Kernel}
-use Rattle.types.specs.declared.thread.ThreadOption.TheVariants.{SomeThread}
+use Rattle.sound.specs.View.{ids}
+use Rattle.kernel.specs.NextEvent.{contains}
 use Rattle.pass.specs.Timers.{timer_due}
 use Rattle.pass.specs.Asks.{wait_at_once, unsatisfied, padded, open_object, satisfied_by}
 use Rattle.pass.specs.Padded.{padded-more}
@@ -32,21 +38,35 @@ open_more k s i l r h e f =
     let p : set (padded wait_at_once os) (length os) (record { 0 = r.0 }) ≡ padded wait_at_once (os ++ (r.0 ∷ [])) = padded-more wait_at_once os r.0 (omega arith) in
     rw (e, m) (rw n at p)
 
+-- ---- whether a list has no object at a place, as `any` tells it
+pub any-none : (l : List ObjectId) → list_any (λ (x : ObjectId). eqb x.0 0) l ≡ contains (ids l) 0
+unfolding contains ◌or◌
+any-none [] = refl
+any-none (x ∷ l) = rw (any-none l) (go (eqb x.0 0) (contains (ids l) 0))
+  where
+    go : (a b : Bool) → a || b ≡ a or b
+    go true b = refl
+    go false b = refl
+
+-- ---- the numbers of the first n
+pub first_ids : (n : ℕ) (l : List ObjectId) → take n (ids l) ≡ ids (take n l)
+first_ids n l = take-map (λ (o : ObjectId). o.0) n l
+
 -- ---- the cases of a wait on n handles
 module _ (k : Kernel) (c n : ℕ) (s : List ℕ) (all : Bool) (tick : ℕ) where
   abbrev hs : List ℕ
   hs = dec_all num 4 n s 0
 
-  pub many : wait_at_once < n → unsatisfied ≡ satisfied_by (SomeThread c) k hs all tick
+  pub many : wait_at_once < n → unsatisfied ≡ satisfied_by (Some c) k hs all tick
   unfolding ◌or◌
   many h = rw (length-dec_all num 4 n s 0, lt-ltb wait_at_once n h)
 
-  pub fires : n ≤ wait_at_once → timer_due tick k.objects.slots ≡ true → unsatisfied ≡ satisfied_by (SomeThread c) k hs all tick
+  pub fires : n ≤ wait_at_once → timer_due tick k.objects.slots ≡ true → unsatisfied ≡ satisfied_by (Some c) k hs all tick
   unfolding ◌or◌
   fires h e = rw (length-dec_all num 4 n s 0, le-ltb wait_at_once n h, e)
 
   pub looked : n ≤ wait_at_once → timer_due tick k.objects.slots ≡ false
-      → satisfied_in k c (padded wait_at_once (map (open_object k) hs)) n all ≡ satisfied_by (SomeThread c) k hs all tick
+      → satisfied_in k c (padded wait_at_once (map (open_object k) hs)) n all ≡ satisfied_by (Some c) k hs all tick
   unfolding ◌or◌
   looked h e =
       rw (length-dec_all num 4 n s 0, le-ltb wait_at_once n h, e)

@@ -3,68 +3,62 @@
 
 pub mod now;
 
-ghost use Rattle.std.specs.Prelude.{◌≡◌, [], length};
+ghost use Rattle.std.specs.Prelude.{◌≡◌, []};
+ghost use Rattle.types.specs.Refusal.{found_in};
 ghost use Rattle.lent.specs.Lent.{lent, back};
 ghost use Rattle.lent.specs.Operations as def;
 
 use codec::Two;
 use lent::questions;
-use pass::{IndexOption, Satisfied};
+use pass::Satisfied;
+use types::refusal::Refusal;
 use units::Ticks;
 
-fn index_flag(o: IndexOption) -> u32
-    ensures { result ≡ def.index_flag o }
-{
-    match o {
-        IndexOption::NoIndex => 0,
-        IndexOption::SomeIndex(_i) => 1,
-    }
-}
-
-fn index_value(o: IndexOption) -> u32
-    ensures { result ≡ def.index_value o }
-{
-    match o {
-        IndexOption::NoIndex => 0,
-        IndexOption::SomeIndex(i) => i,
-    }
-}
-
-fn put_satisfied(answer: &mut [u8], r: Satisfied)
-    requires { length answer.old ≡ 40 }
+fn put_satisfied(answer: &mut [u8; 40], r: Satisfied)
     ensures { answer.new ≡ def.satisfied_bytes r }
 {
-    let index = r.index;
-    let objects = r.objects;
-    let flag = index_flag(index);
-    let value = index_value(index);
+    let flag = types::thread::option_flag(r.index);
+    let value = types::thread::option_value(r.index);
     codec::put_two(answer, 0, Two(flag, value));
-    block::table::put_ids8(answer, 8, objects);
+    block::record::write_all(answer, 8, &r.objects);
+}
+
+// The same with the refusal itself.
+fn look(
+    block: &[u8],
+    handles: &[u8],
+    answer: &mut [u8],
+    wait_all: u32,
+    tick: Ticks,
+) -> Result<(), Refusal>
+    ensures { back (found_in result) (lent block.now [] [] [] answer.new) ≡ def.satisfied_now handles.now wait_all tick.0 (lent block.now [] [] [] answer.old) }
+{
+    let Some(block) = block.as_array::<16384>() else {
+        return Err(Refusal::Length);
+    };
+    if handles.len() % 4 != 0 {
+        return Err(Refusal::Length);
+    }
+    let Some(answer) = answer.as_mut_array::<40>() else {
+        return Err(Refusal::Length);
+    };
+    if !questions::block_ok(block) {
+        return Err(Refusal::Unsound);
+    }
+    if outcome::out_of_handles(block) {
+        return Err(Refusal::Overflow);
+    }
+    let all = wait_all != 0;
+    put_satisfied(answer, now::satisfied_now(block, handles, all, tick));
+    Ok(())
 }
 
 // The eight object numbers, unused places 0, and the index that the wait gives.
 pub fn operate(block: &[u8], handles: &[u8], answer: &mut [u8], wait_all: u32, tick: Ticks) -> u32
     ensures { back result (lent block.now [] [] [] answer.new) ≡ def.satisfied_now handles.now wait_all tick.0 (lent block.now [] [] [] answer.old) }
 {
-    if block.len() != 16384 {
-        return 1;
+    match look(block, handles, answer, wait_all, tick) {
+        Ok(()) => 0,
+        Err(refusal) => u32::from(refusal),
     }
-    if handles.len() % 4 != 0 {
-        return 1;
-    }
-    if answer.len() != 40 {
-        return 1;
-    }
-    if !questions::block_ok(block) {
-        return 2;
-    }
-    if outcome::out_of_handles(block) {
-        return 8;
-    }
-    let all = wait_all != 0;
-    put_satisfied(
-        answer,
-        now::satisfied_now(block, handles, handles.len() / 4, all, tick),
-    );
-    0
 }

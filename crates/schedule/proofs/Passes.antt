@@ -1,20 +1,21 @@
 -- A pass by its parts: the tries, the choice, what is found and what is written. Assumes nothing.
+use Rattle.std.specs.Prelude.{Option, Some, None, Ok, Err}
 use mathlib.Core.Path.{◌≡◌, refl, sym, ap, subst, ◌∙◌}
 use mathlib.Core.Bool.{Bool, true, false}
-use mathlib.Core.List.{List, [], ◌∷◌, ◌++◌, append-nil}
-use Prim.Native.Nat.{ℕ, zero, suc, ◌+◌, ◌≤◌}
-use native.Mathlib.Omega.{arith}
+use mathlib.Core.List.{List, [], ◌∷◌}
+use Prim.Native.Nat.{ℕ, zero, suc}
 use lib.Dec.{eqb}
-use lib.ListN.{length, drop, drop_of_length-le}
+use lib.ListN.{length}
 use Rattle.laws.specs.Logic.{pick, ◌or◌}
 use Rattle.codec.specs.Bytes.{over}
 use Rattle.codec.specs.Layout.{enc_all, dec_as, dec_all}
 use Rattle.types.specs.declared.thread.Thread.{Thread}
-use Rattle.types.specs.declared.thread.ThreadOption.{ThreadOption}
-use Rattle.types.specs.declared.thread.ThreadOption.TheVariants.{NoThread, SomeThread}
 use Rattle.types.specs.declared.object.ObjectStore.{ObjectStore}
 use Rattle.types.specs.declared.kernel.Kernel.{Kernel}
-use Rattle.types.specs.Thread.{thread_option}
+use Rattle.types.specs.Thread.{option_of}
+use Rattle.types.specs.declared.refusal.Refusal.{Refusal}
+use Rattle.types.specs.declared.refusal.Refusal.TheVariants.{Overflow}
+use Rattle.types.specs.Refusal.{unless_found}
 use Rattle.block.specs.declared.Head.{Head}
 use Rattle.block.specs.Thread.{enc_thread, dec_thread}
 use Rattle.block.specs.Block.{head_at, head_words, enc_block, dec_block}
@@ -41,15 +42,14 @@ use Rattle.lent.specs.Operations.{out_of_handles?, finding}
 use Rattle.outcome.specs.Findings.{found_of, parts-finding}
 use Rattle.schedule.specs.Pass.{head_after}
 
--- ---- a copy
-pub whole : (b x : List ℕ) → length b ≡ length x → over b 0 x ≡ x
-whole b x n =
-    let m : length b ≤ 0 + length x = omega (arith, n) in
-    let e : drop (0 + length x) b ≡ [] = drop_of_length-le b m in
-    ap (λ (z : List ℕ). x ++ z) e ∙ append-nil x
+-- ---- what the tries answer, v whether a count does not fit
+pub fine : {A : Type 0} (v : Bool) (x y : A) → unless_found (pick v 8 0) x ≡ Ok y → v ≡ false
+fine true x y e = cc
+fine false x y e = refl
 
-pub restored : (b x y z : List ℕ) → length b ≡ 16384 → length x ≡ 16384 → length y ≡ 16384 → z ≡ over x 0 b → over y 0 z ≡ b
-restored b x y z n m l e = let w : z ≡ b = e ∙ whole x b (m ∙ sym n) in ap (over y 0) w ∙ whole y b (l ∙ sym n)
+pub refused : {A : Type 0} (v : Bool) (x : A) (r : Refusal) → unless_found (pick v 8 0) x ≡ Err r → (v ≡ true) × (r ≡ Overflow)
+refused true x r e = (refl, cc)
+refused false x r e = cc
 
 -- ---- no try makes anything too full
 acquires-full : (os : List ℕ) (s : ObjectStore) (w : ℕ) → (acquires s os w).full ≡ s.full
@@ -82,12 +82,12 @@ none-full : (b : List ℕ) → (dec_block b).objects.full ≡ false
 unfolding dec_block
 none-full b = refl
 
-switch_finding : (k : Kernel) (s : ObjectStore) (ts : List Thread) (relief : Bool) (c n : ThreadOption) → finding (switch_as k s ts relief c n).kernel ≡ finding (with_threads k k.threads s)
+switch_finding : (k : Kernel) (s : ObjectStore) (ts : List Thread) (relief : Bool) (c n : Option ℕ) → finding (switch_as k s ts relief c n).kernel ≡ finding (with_threads k k.threads s)
 unfolding finding out_of_handles?
-switch_finding k s ts relief NoThread NoThread = refl
-switch_finding k s ts relief (SomeThread c) NoThread = refl
-switch_finding k s ts relief NoThread (SomeThread n) = refl
-switch_finding k s ts relief (SomeThread c) (SomeThread n) = either-finding (eqb c n) _ _ _ refl refl
+switch_finding k s ts relief None None = refl
+switch_finding k s ts relief (Some c) None = refl
+switch_finding k s ts relief None (Some n) = refl
+switch_finding k s ts relief (Some c) (Some n) = either-finding (eqb c n) _ _ _ refl refl
 
 pass-finding : (b : List ℕ) (tick : ℕ) → finding (schedule (dec_block b) tick).kernel ≡ found_of false ((tried (dec_block b) tick).objects.overflow or out_of_handles? (dec_block b))
 unfolding schedule
@@ -115,7 +115,7 @@ module _ (b : List ℕ) (tick : ℕ) where
   none_found e f = sym (pass-finding b tick ∙ rw (e, f))
 
 -- ---- what is written: b is the block before, e that after the tries
-module _ (b e : List ℕ) (tick : ℕ) (d : dec_block e ≡ during (dec_block b) (tried (dec_block b) tick)) (s : sound? e ≡ true) (h : Head) (eh : h ≡ head_at e) (c : ThreadOption) (ec : c ≡ thread_option h.a.2 h.a.3)
+module _ (b e : List ℕ) (tick : ℕ) (d : dec_block e ≡ during (dec_block b) (tried (dec_block b) tick)) (s : sound? e ≡ true) (h : Head) (eh : h ≡ head_at e) (c : Option ℕ) (ec : c ≡ option_of h.a.2 h.a.3)
     (ts : List Thread) (et : ts ≡ dec_all dec_thread 160 32 e 128) (t : Turned) (g : Chooses ts c (eqb h.b.3 1) tick t) where
   abbrev k : Kernel
   k = dec_block b
@@ -128,7 +128,7 @@ module _ (b e : List ℕ) (tick : ℕ) (d : dec_block e ≡ during (dec_block b)
 
   current-is : c ≡ k.current_thread
   unfolding dec_block dec_as
-  current-is = ec ∙ (λ i. thread_option (eh i).a.2 (eh i).a.3) ∙ ap (λ (z : Kernel). z.current_thread) d
+  current-is = ec ∙ (λ i. option_of (eh i).a.2 (eh i).a.3) ∙ ap (λ (z : Kernel). z.current_thread) d
 
   relief-is : eqb h.b.3 1 ≡ k.relief
   unfolding dec_block dec_as

@@ -1,143 +1,153 @@
 // The operation that makes a pass.
 #![tactic(auto)]
 
-ghost use Rattle.std.specs.Prelude.{◌≡◌, true, false, [], ◌+◌, ◌*◌, ◌<◌, length};
+ghost use Rattle.std.specs.Prelude.{◌≡◌, true, [], Some, Ok, Err};
 ghost use Rattle.laws.specs.Logic.{pick};
 ghost use Rattle.codec.specs.Bytes.{bytes};
 ghost use Rattle.block.specs.Block.{dec_block};
 ghost use Rattle.sound.specs.Question.{sound?};
 ghost use Rattle.pass.specs.Schedule as pass;
 ghost use Rattle.passing.specs.Awake.{during};
+ghost use Rattle.types.specs.Refusal.{found_in, unless_found};
 ghost use Rattle.lent.specs.Lent.{lent, back};
 ghost use Rattle.lent.specs.Operations as def;
 ghost use Rattle.schedule.specs.Pass.{head_after};
 
-use block::Head;
+use block::context::{Bank, Processor};
+use block::{Block, Head};
 use codec::Four;
 use lent::questions;
 use rows::write;
 use scheduler::choose;
-use types::thread::ThreadOption;
+use types::refusal::Refusal;
 use units::Ticks;
 
-fn save_at(bank: &mut [u8], t: u32, context: &[u8])
-    requires bank_len { length bank.old ≡ 6656 }
-    requires context_len { length context.now ≡ 208 }
-    ensures { bank.new ≡ def.save_row bank.old (ThreadOption.SomeThread t) context.now }
+fn save_at(bank: &mut Bank, t: u32, context: &Processor)
+    ensures { bank.new ≡ def.save_row bank.old (Some t) context.now }
 {
-    if 32 <= t {
-        return;
+    if t < 32 {
+        codec::copy(bank, t as usize * 208, context);
     }
-    codec::copy(bank, t as usize * 208, context);
 }
 
-fn save(bank: &mut [u8], saved: ThreadOption, context: &[u8])
-    requires bank_len { length bank.old ≡ 6656 }
-    requires context_len { length context.now ≡ 208 }
+fn save(bank: &mut Bank, saved: Option<u32>, context: &Processor)
     ensures { bank.new ≡ def.save_row bank.old saved context.now }
 {
-    match saved {
-        ThreadOption::NoThread => {}
-        ThreadOption::SomeThread(t) => save_at(bank, t, context),
+    if let Some(t) = saved {
+        save_at(bank, t, context);
     }
 }
 
-fn restore_at(context: &mut [u8], t: u32, bank: &[u8])
-    requires context_len { length context.old ≡ 208 }
-    requires bank_len { length bank.now ≡ 6656 }
-    ensures { context.new ≡ def.restore_row context.old (ThreadOption.SomeThread t) bank.now }
+fn restore_at(context: &mut Processor, t: u32, bank: &Bank)
+    ensures { context.new ≡ def.restore_row context.old (Some t) bank.now }
 {
-    if 32 <= t {
-        return;
+    if t < 32 {
+        let from = t as usize * 208;
+        codec::copy(context, 0, &bank[from..from + 208]);
     }
-    let from = t as usize * 208;
-    codec::copy(context, 0, &bank[from..from + 208]);
 }
 
-fn restore(context: &mut [u8], restored: ThreadOption, bank: &[u8])
-    requires context_len { length context.old ≡ 208 }
-    requires bank_len { length bank.now ≡ 6656 }
+fn restore(context: &mut Processor, restored: Option<u32>, bank: &Bank)
     ensures { context.new ≡ def.restore_row context.old restored bank.now }
 {
-    match restored {
-        ThreadOption::NoThread => {}
-        ThreadOption::SomeThread(t) => restore_at(context, t, bank),
+    if let Some(t) = restored {
+        restore_at(context, t, bank);
     }
-}
-
-fn flag(b: bool) -> u32
-    ensures { result ≡ pick b 1 0 }
-{
-    if b {
-        return 1;
-    }
-    0
 }
 
 // The processor goes to its row and comes from one; the answer tells whether the pass switched.
 fn put_passed(
-    bank: &mut [u8],
-    processor: &mut [u8],
-    answer: &mut [u8],
-    saved: ThreadOption,
-    restored: ThreadOption,
+    bank: &mut Bank,
+    processor: &mut Processor,
+    answer: &mut [u8; 4],
+    saved: Option<u32>,
+    restored: Option<u32>,
     switched: bool,
 )
-    requires bank_len { length bank.old ≡ 6656 }
-    requires processor_len { length processor.old ≡ 208 }
-    requires answer_len { length answer.old ≡ 4 }
     ensures bank_after { bank.new ≡ def.save_row bank.old saved processor.old }
     ensures processor_after { processor.new ≡ def.restore_row processor.old restored (def.save_row bank.old saved processor.old) }
     ensures answer_after { answer.new ≡ bytes 4 (pick switched 1 0) }
 {
     save(bank, saved, processor);
     restore(processor, restored, bank);
-    codec::put32(answer, 0, flag(switched));
+    codec::put32(answer, 0, switched as u32);
 }
 
 // The head h after the pass, with the choice of who runs.
-fn head_after(h: Head, next: ThreadOption, relief: bool) -> Head
+fn head_after(h: Head, next: Option<u32>, relief: bool) -> Head
     ensures { result ≡ head_after h next relief }
 {
-    let p = h.a;
-    let q = h.b;
-    let c = h.c;
-    let d = h.d;
-    let blocked = choose::is_none(next);
     Head {
         a: Four(
-            p.0,
-            p.1,
-            types::thread::thread_flag(next),
-            types::thread::thread_value(next),
+            h.a.0,
+            h.a.1,
+            types::thread::option_flag(next),
+            types::thread::option_value(next),
         ),
-        b: Four(q.0, q.1, blocked as u32, relief as u32),
-        c: c,
-        d: d,
+        b: Four(h.b.0, h.b.1, next.is_none() as u32, relief as u32),
+        ..h
     }
 }
 
-// The pass up to its choice. True, with the block as it was, if a count does not fit: the tries are done in the block, and
-// only a later one may find that, so a copy is kept. No byte is left open: a sound block is the encoding of what
-// it decodes to.
-fn try_waits(block: &mut [u8], tick: Ticks) -> bool
-    requires block_len { length block.old ≡ 16384 }
+// The pass up to its choice. Refused, with the block as it was, if a count does not fit: the tries are done in the
+// block, and only a later one may find that, so a copy is kept. No byte is left open: a sound block is the encoding of
+// what it decodes to.
+fn try_waits(block: &mut Block, tick: Ticks) -> Result<(), Refusal>
     requires block_value { sound? block.old ≡ true }
-    ensures value { result ≡ (pass.tried (dec_block block.old) tick.0).objects.overflow }
-    ensures block_unchanged { (result ≡ true) → block.new ≡ block.old }
-    ensures block_after { (result ≡ false) → dec_block block.new ≡ during (dec_block block.old) (pass.tried (dec_block block.old) tick.0) }
-    ensures block_after_2 { (result ≡ false) → sound? block.new ≡ true }
+    ensures value { result ≡ unless_found (pick (pass.tried (dec_block block.old) tick.0).objects.overflow 8 0) tt }
+    ensures block_unchanged { (result ≡ Err Refusal.Overflow) → block.new ≡ block.old }
+    ensures block_after { (result ≡ Ok tt) → dec_block block.new ≡ during (dec_block block.old) (pass.tried (dec_block block.old) tick.0) }
+    ensures block_after_2 { (result ≡ Ok tt) → sound? block.new ≡ true }
 {
     let mut before = [0u8; 16384];
     codec::copy(&mut before, 0, block);
-    if tries::try_waits(block, tick) {
+    let tried = tries::try_waits(block, tick);
+    if tried.is_err() {
         codec::copy(block, 0, &before);
-        return true;
     }
-    false
+    tried
 }
 
 // Timers fire, waits that are over end, and the most urgent thread that can run gets the core.
+fn work(
+    block: &mut [u8],
+    bank: &mut [u8],
+    processor: &mut [u8],
+    answer: &mut [u8],
+    tick: Ticks,
+) -> Result<(), Refusal>
+    ensures { back (found_in result) (lent block.new bank.new processor.new [] answer.new) ≡ def.schedule tick.0 (lent block.old bank.old processor.old [] answer.old) }
+{
+    let Some(block) = block.as_mut_array::<16384>() else {
+        return Err(Refusal::Length);
+    };
+    let Some(bank) = bank.as_mut_array::<6656>() else {
+        return Err(Refusal::Length);
+    };
+    let Some(processor) = processor.as_mut_array::<208>() else {
+        return Err(Refusal::Length);
+    };
+    let Some(answer) = answer.as_mut_array::<4>() else {
+        return Err(Refusal::Length);
+    };
+    if !questions::block_ok(block) {
+        return Err(Refusal::Unsound);
+    }
+    if outcome::out_of_handles(block) {
+        return Err(Refusal::Overflow);
+    }
+    try_waits(block, tick)?;
+    let head = block::get_head(block);
+    let current = types::thread::option_of(head.a.2, head.a.3);
+    let tried = block::record::read_all(block, 128);
+    let t = choose::choose(tried, current, head.b.3 == 1, tick);
+    block::record::write_all(block, 128, &t.threads);
+    write::put_head(block, head_after(head, t.current, t.relief));
+    put_passed(bank, processor, answer, t.saved, t.restored, t.switched);
+    Ok(())
+}
+
+// The work as C gets it: 0, or the number of the refusal.
 pub fn operate(
     block: &mut [u8],
     bank: &mut [u8],
@@ -147,39 +157,8 @@ pub fn operate(
 ) -> u32
     ensures { back result (lent block.new bank.new processor.new [] answer.new) ≡ def.schedule tick.0 (lent block.old bank.old processor.old [] answer.old) }
 {
-    if block.len() != 16384 {
-        return 1;
+    match work(block, bank, processor, answer, tick) {
+        Ok(()) => 0,
+        Err(r) => u32::from(r),
     }
-    if bank.len() != 6656 {
-        return 1;
-    }
-    if processor.len() != 208 {
-        return 1;
-    }
-    if answer.len() != 4 {
-        return 1;
-    }
-    if !questions::block_ok(block) {
-        return 2;
-    }
-    if outcome::out_of_handles(block) {
-        return 8;
-    }
-    if try_waits(block, tick) {
-        return 8;
-    }
-    let head = block::get_head(block);
-    let p = head.a;
-    let q = head.b;
-    let current = types::thread::thread_option(p.2, p.3);
-    let tried = block::thread::get_threads(block, 128);
-    let t = choose::choose(tried, current, q.3 == 1, tick);
-    let next = t.current;
-    let threads = t.threads;
-    block::thread::put_threads(block, 128, threads);
-    write::put_head(block, head_after(head, next, t.relief));
-    let saved = t.saved;
-    let restored = t.restored;
-    put_passed(bank, processor, answer, saved, restored, t.switched);
-    0
 }

@@ -1,4 +1,3 @@
 -- The switch as it is computed.
 pub mod Switch
 pub mod Turn
-pub mod Place

@@ -1,120 +1,67 @@
 // The choice after the tries: first pick, starving, relief, stand-in, switch.
-ghost use Rattle.std.specs.Prelude.{◌≡◌, not};
+ghost use Rattle.std.specs.Prelude.{◌≡◌, not, Some};
 ghost use Rattle.laws.specs.Logic.{◌and◌};
 ghost use Rattle.sound.specs.View.{thread_at};
-ghost use Rattle.pass.specs.Pick.{or_else};
 ghost use Rattle.pass.specs.Schedule as def;
 ghost use Rattle.scheduler.specs.Switch as computed;
 ghost use Rattle.scheduler.specs.Turn.{Chooses};
 
 use crate::run;
-use types::thread::{Thread, ThreadOption};
+use types::thread::Thread;
 use units::Ticks;
 
-fn priority_at(ts: [Thread; 32], t: u32) -> u32
-    ensures { result ≡ (thread_at ts t).priority }
+fn priority_at(ts: &[Thread; 32], t: u32) -> u32
+    ensures { result ≡ (thread_at ts.now t).priority }
 {
-    if 32 <= t {
-        return 0;
-    }
-    let v = ts[t as usize];
-    v.priority
+    if t < 32 { ts[t as usize].priority } else { 0 }
 }
 
-fn or_else(first: ThreadOption, other: ThreadOption) -> ThreadOption
-    ensures { result ≡ or_else first other }
+fn stand_in_at(ts: &[Thread; 32], t: u32) -> Option<u32>
+    ensures { result ≡ def.stand_in ts.now (Some t) }
 {
-    match first {
-        ThreadOption::NoThread => other,
-        ThreadOption::SomeThread(t) => ThreadOption::SomeThread(t),
-    }
+    pick::pick_other(ts, t, priority_at(ts, t)).or(Some(t))
 }
 
-fn stand_in_at(ts: [Thread; 32], t: u32) -> ThreadOption
-    ensures { result ≡ def.stand_in ts (ThreadOption.SomeThread t) }
+fn stand_in(ts: &[Thread; 32], first: Option<u32>) -> Option<u32>
+    ensures { result ≡ def.stand_in ts.now first }
 {
-    let p = priority_at(ts, t);
-    let other = pick::pick_other(ts, t, p);
-    or_else(other, ThreadOption::SomeThread(t))
-}
-
-fn stand_in(ts: [Thread; 32], first: ThreadOption) -> ThreadOption
-    ensures { result ≡ def.stand_in ts first }
-{
-    match first {
-        ThreadOption::NoThread => ThreadOption::NoThread,
-        ThreadOption::SomeThread(t) => stand_in_at(ts, t),
-    }
+    first.and_then(|t| stand_in_at(ts, t))
 }
 
 // When relief turns on, another thread runs instead, if there is one.
-fn chosen(ts: [Thread; 32], first: ThreadOption, starve: bool, relief: bool) -> ThreadOption
-    ensures { result ≡ def.chosen ts first starve relief }
+#[tactic(auto, using(laws::specs::Logic::and_yes, laws::specs::Logic::and_no))]
+fn chosen(ts: &[Thread; 32], first: Option<u32>, starve: bool, relief: bool) -> Option<u32>
+    ensures { result ≡ def.chosen ts.now first starve relief }
 {
-    if !starve {
-        return first;
+    if starve && !relief {
+        return stand_in(ts, first);
     }
-    if relief {
-        return first;
-    }
-    stand_in(ts, first)
+    first
 }
 
 fn flipped(starve: bool, relief: bool) -> bool
     ensures { result ≡ def.flipped starve relief }
 {
-    if starve {
-        return !relief;
-    }
-    relief
+    if starve { !relief } else { relief }
 }
 
-pub fn is_none(t: ThreadOption) -> bool
-    ensures { result ≡ def.is_none t }
-{
-    match t {
-        ThreadOption::NoThread => true,
-        ThreadOption::SomeThread(_t) => false,
-    }
-}
-
-fn stays_at(t: u32, n: ThreadOption) -> bool
-    ensures { result ≡ computed.stays (ThreadOption.SomeThread t) n }
-{
-    match n {
-        ThreadOption::NoThread => false,
-        ThreadOption::SomeThread(u) => t == u,
-    }
-}
-
-fn stays(c: ThreadOption, n: ThreadOption) -> bool
+fn stays(c: Option<u32>, n: Option<u32>) -> bool
     ensures { result ≡ computed.stays c n }
 {
-    match c {
-        ThreadOption::NoThread => false,
-        ThreadOption::SomeThread(t) => stays_at(t, n),
-    }
+    c.is_some() && c == n
 }
 
-fn unless(same: bool, t: ThreadOption) -> ThreadOption
+fn unless(same: bool, t: Option<u32>) -> Option<u32>
     ensures { result ≡ computed.unless same t }
 {
-    if same {
-        return ThreadOption::NoThread;
-    }
-    t
+    if same { None } else { t }
 }
 
-fn switches(same: bool, c: ThreadOption, n: ThreadOption) -> bool
+#[tactic(auto, using(laws::specs::Logic::and_yes, laws::specs::Logic::and_no))]
+fn switches(same: bool, c: Option<u32>, n: Option<u32>) -> bool
     ensures { result ≡ (not same and not (def.is_none c and def.is_none n)) }
 {
-    if same {
-        return false;
-    }
-    if !is_none(c) {
-        return true;
-    }
-    !is_none(n)
+    !same && (c.is_some() || n.is_some())
 }
 
 // What a pass chooses: the threads after it, who runs, the relief, whose context is saved, whose is restored, and
@@ -122,40 +69,35 @@ fn switches(same: bool, c: ThreadOption, n: ThreadOption) -> bool
 #[derive(Clone, Copy)]
 pub struct Turned {
     pub threads: [Thread; 32],
-    pub current: ThreadOption,
+    pub current: Option<u32>,
     pub relief: bool,
-    pub saved: ThreadOption,
-    pub restored: ThreadOption,
+    pub saved: Option<u32>,
+    pub restored: Option<u32>,
     pub switched: bool,
 }
 
 // From the threads ts after the tries. In place: threads that are handed on would be copied.
-pub fn choose(ts: [Thread; 32], current: ThreadOption, relief: bool, tick: Ticks) -> Turned
+pub fn choose(ts: [Thread; 32], current: Option<u32>, relief: bool, tick: Ticks) -> Turned
     ensures { Chooses ts current relief tick.0 result }
 {
     let mut l = ts;
-    let c = run::place_of(current);
-    l[c] = run::mark_waited(current, l[c]);
-    let first = pick::pick_next(l, current);
-    let f = run::place_of(first);
-    l[f] = run::begin_run(first, l[f], tick);
-    let starve = run::starving(first, l[f], tick);
-    let next = chosen(l, first, starve, relief);
-    let n = run::place_of(next);
-    l[n] = run::begin_run(next, l[n], tick);
+    run::mark_waited(&mut l, current);
+    let first = pick::pick_next(&l, current);
+    run::begin_run(&mut l, first, tick);
+    let starve = run::starving(&l, first, tick);
+    let next = chosen(&l, first, starve, relief);
+    run::begin_run(&mut l, next, tick);
     let same = stays(current, next);
-    l[c] = run::leave_core(same, current, l[c]);
-    l[n] = run::take_core(next, l[n]);
-    let saved = unless(same, current);
-    let restored = unless(same, next);
-    let turned = switches(same, current, next);
-    let turns = flipped(starve, relief);
+    if !same {
+        run::leave_core(&mut l, current);
+    }
+    run::take_core(&mut l, next);
     Turned {
         threads: l,
         current: next,
-        relief: turns,
-        saved: saved,
-        restored: restored,
-        switched: turned,
+        relief: flipped(starve, relief),
+        saved: unless(same, current),
+        restored: unless(same, next),
+        switched: switches(same, current, next),
     }
 }

@@ -1,5 +1,4 @@
 -- The laws that the proofs of `signal` cite.
 pub mod Steps
-pub mod Due
 pub mod Pulses
 pub mod Timers

@@ -1,12 +1,18 @@
 -- One turn of a loop over a list. Assumes nothing.
-use mathlib.Core.Path.{◌≡◌}
-use mathlib.Core.Bool.{Bool, false}
+use mathlib.Core.Path.{◌≡◌, refl}
+use mathlib.Core.Bool.{Bool, true, false}
 use mathlib.Core.List.{List, [], ◌∷◌}
 use Prim.Native.Nat.{ℕ, suc, ◌+◌, ◌≤◌, ◌<◌}
 use native.Mathlib.Numerals.{add-one}
+use Rattle.std.specs.Prelude.{◌||◌}
+use Rattle.std.specs.List.{list_any}
+use lib.Dec.{eqb}
 use lib.ListN.{length, get_or, drop, drop_of_length-le}
 use lib.Seq.{drop-cons}
 use Rattle.laws.specs.Logic.{◌or◌}
+use Rattle.units.specs.declared.ObjectId.{ObjectId}
+use Rattle.sound.specs.View.{ids}
+use Rattle.kernel.specs.NextEvent.{contains}
 
 -- ---- whether f holds of any element of a list
 module _ {A : Type 0} (d : A) (f : A → Bool) (any : List A → Bool) (none : any [] ≡ false) (more : (x : A) (xs : List A) → any (x ∷ xs) ≡ f x or any xs) where
@@ -15,3 +21,13 @@ module _ {A : Type 0} (d : A) (f : A → Bool) (any : List A → Bool) (none : a
 
   pub any_end : (l : List A) (i : ℕ) → length l ≤ i → any (drop i l) ≡ false
   any_end l i h = rw (drop_of_length-le l h) none
+
+-- ---- whether a list has an object
+pub any-contains : (l : List ObjectId) (o : ℕ) → list_any (λ (x : ObjectId). eqb x.0 o) l ≡ contains (ids l) o
+unfolding contains ◌or◌
+any-contains [] o = refl
+any-contains (x ∷ l) o = rw (any-contains l o) (go (eqb x.0 o) (contains (ids l) o))
+  where
+    go : (a b : Bool) → a || b ≡ a or b
+    go true b = refl
+    go false b = refl

@@ -1,18 +1,18 @@
 -- One turn of `fire_timers`, and of the loss of pulses in `catch_up_timers`. Assumes nothing.
+use Rattle.std.specs.Prelude.{Option, Some, None}
+use Rattle.units.specs.declared.Ticks.{Ticks}
 use mathlib.Core.Path.{◌≡◌, refl, ap, sym, ◌∙◌}
 use mathlib.Core.Bool.{Bool, true, false}
 use mathlib.Core.List.{List}
 use Prim.Native.Nat.{ℕ, ◌≤◌}
 use native.Mathlib.Omega.{arith}
 use lib.ListN.{length, replicate}
-use Rattle.laws.specs.Logic.{◌and◌, ◌or◌, pick_yes}
+use Rattle.laws.specs.Logic.{◌and◌, pick_yes}
 use Rattle.laws.specs.All.{All}
 use Rattle.laws.specs.Tally.{tally_all}
 use Rattle.types.specs.declared.object.KObject.{KObject}
 use Rattle.types.specs.declared.object.KObject.TheVariants.{Free, Event, Mutex, Semaphore, Timer, AddressArbiter, Process, ResourceLimit}
 use Rattle.types.specs.declared.object.KObject.TheVariants as kind
-use Rattle.types.specs.declared.thread.TickOption.{TickOption}
-use Rattle.types.specs.declared.thread.TickOption.TheVariants.{NoTick, SomeTick}
 use Rattle.types.specs.declared.thread.Thread.{Thread}
 use Rattle.types.specs.declared.sync.Timer as ti
 use Rattle.types.specs.declared.object.Slot.{Slot}
@@ -24,9 +24,9 @@ use Rattle.pass.specs.Timers.{due_by, fired_at, fired_as, over_at, over_of, fire
 use Rattle.signal.specs.Marks.{sync_lists, lost_marked, lost_is}
 
 -- ---- what is not due yet
-at_same : (s : Slot) (t : ti.Timer) (at : TickOption) (tick : ℕ) → due_by at tick ≡ false → fired_at s t at tick ≡ s
-at_same s t NoTick tick e = refl
-at_same s t (SomeTick at) tick e = rw e
+at_same : (s : Slot) (t : ti.Timer) (at : Option Ticks) (tick : ℕ) → due_by at tick ≡ false → fired_at s t at tick ≡ s
+at_same s t None tick e = refl
+at_same s t (Some at) tick e = rw e
 
 pub fired-same : (s : Slot) (x : KObject) (tick : ℕ) → due_by (due_of x) tick ≡ false → fired_as s x tick ≡ s
 fired-same s (Free n) tick e = refl
@@ -39,10 +39,10 @@ fired-same s (AddressArbiter a) tick e = refl
 fired-same s Process tick e = refl
 fired-same s ResourceLimit tick e = refl
 
-at-fits : (at : TickOption) (interval tick : ℕ) → due_by at tick ≡ false → over_at at interval tick ≡ false
+at-fits : (at : Option Ticks) (interval tick : ℕ) → due_by at tick ≡ false → over_at at interval tick ≡ false
 unfolding ◌and◌
-at-fits NoTick interval tick e = refl
-at-fits (SomeTick at) interval tick e = rw e
+at-fits None interval tick e = refl
+at-fits (Some at) interval tick e = rw e
 
 pub over_none : (x : KObject) (tick : ℕ) → due_by (due_of x) tick ≡ false → over_of x tick ≡ false
 over_none (Free n) tick e = refl

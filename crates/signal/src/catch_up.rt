@@ -13,45 +13,33 @@ pub fn lost_object(x: KObject) -> KObject
     ensures { result ≡ def.lost_object x }
 {
     match x {
-        KObject::Free(n) => KObject::Free(n),
-        KObject::Thread(u) => KObject::Thread(u),
-        KObject::Event(e) => KObject::Event(e),
-        KObject::Mutex(m) => KObject::Mutex(m),
-        KObject::Semaphore(s) => KObject::Semaphore(s),
         KObject::Timer(t) => KObject::Timer(pulse::quiet_timer(t)),
-        KObject::AddressArbiter(a) => KObject::AddressArbiter(a),
-        KObject::Process => KObject::Process,
-        KObject::ResourceLimit => KObject::ResourceLimit,
+        other => other,
     }
 }
 
+#[tactic(auto, using(laws::specs::Logic::and_yes, laws::specs::Logic::and_no))]
 pub fn lost_slot(waited: bool, s: Slot) -> Slot
     ensures { result ≡ def.lost_slot waited s }
 {
-    if !s.pulsed {
-        return s;
+    if s.pulsed && !waited {
+        return Slot {
+            object: lost_object(s.object),
+            pulsed: false,
+            ..s
+        };
     }
-    if waited {
-        return s;
-    }
-    let x = s.object;
-    let y = lost_object(x);
-    Slot {
-        object: y,
-        refcount: s.refcount,
-        pulsed: false,
-    }
+    s
 }
 
-// One more for each object that the thread waits on.
+// One more for each object that the thread waits on. `mark_list` of next_event.rt asks for another status; what they
+// share is `tally_list`.
+#[tactic(auto, unfolding(laws::specs::Tally::tally))]
 pub fn mark_list(m: &mut [u32; 129], t: Thread)
     ensures m_after { m.new ≡ tally 129 m.old (sync_list t) }
     ensures t_len_bound { length (sync_list t) ≤ wait_list }
 {
-    let s = t.status;
-    if !event::waits_sync(s) {
-        return;
+    if event::waits_sync(t.status) {
+        tally::tally_list(m, t.wait_objects);
     }
-    let l = t.wait_objects;
-    tally::tally_list(m, l);
 }

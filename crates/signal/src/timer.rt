@@ -9,181 +9,91 @@ use crate::event;
 use kernel::next_event;
 use types::object::{KObject, Slot};
 use types::sync::Timer;
-use types::thread::TickOption;
 use units::Ticks;
 
-pub fn due_by(at: TickOption, tick: Ticks) -> bool
+pub fn due_by(at: Option<Ticks>, tick: Ticks) -> bool
     ensures { result ≡ def.due_by at tick.0 }
 {
-    let n = tick.0;
-    match at {
-        TickOption::NoTick => false,
-        TickOption::SomeTick(t) => t.0 <= n,
-    }
+    at.is_some_and(|t| t.0 <= tick.0)
 }
 
 // The tick, plus what is left of the period under way: the first period after the tick.
-fn due_again(at: Ticks, interval: Ticks, tick: Ticks) -> TickOption
+fn due_again(at: Ticks, interval: Ticks, tick: Ticks) -> Option<Ticks>
     requires { at.0 ≤ tick.0 }
     ensures { result ≡ def.due_again at.0 interval.0 tick.0 }
 {
-    let a = at.0;
-    let p = interval.0;
-    let n = tick.0;
-    if p == 0 {
-        return TickOption::NoTick;
+    if interval.0 == 0 {
+        return None;
     }
-    let left = p - (n - a) % p;
-    if 18446744073709551615 - n < left {
-        return TickOption::SomeTick(Ticks(18446744073709551615));
-    }
-    TickOption::SomeTick(Ticks(n + left))
+    let left = interval.0 - (tick.0 - at.0) % interval.0;
+    Some(Ticks(tick.0.saturating_add(left)))
 }
 
 fn fired_timer(t: Timer, at: Ticks, tick: Ticks) -> Timer
     requires { at.0 ≤ tick.0 }
     ensures { result ≡ def.fired_timer t at.0 tick.0 }
 {
-    let kind = t.reset_type;
-    let interval = t.interval;
-    let next = due_again(at, interval, tick);
     Timer {
-        reset_type: kind,
         signaled: true,
-        fire_at: next,
-        interval: interval,
+        fire_at: due_again(at, t.interval, tick),
+        ..t
     }
 }
 
+#[tactic(auto, using(laws::specs::Logic::or_yes, laws::specs::Logic::or_no))]
 fn fired_due(s: Slot, t: Timer, at: Ticks, tick: Ticks) -> Slot
     requires { at.0 ≤ tick.0 }
     ensures { result ≡ record { object = KObject.Timer (def.fired_timer t at.0 tick.0); refcount = s.refcount; pulsed = s.pulsed or is_pulse t.reset_type } }
 {
-    let kind = t.reset_type;
-    let x = fired_timer(t, at, tick);
-    if event::is_pulse(kind) {
-        return Slot {
-            object: KObject::Timer(x),
-            refcount: s.refcount,
-            pulsed: true,
-        };
-    }
     Slot {
-        object: KObject::Timer(x),
-        refcount: s.refcount,
-        pulsed: s.pulsed,
+        object: KObject::Timer(fired_timer(t, at, tick)),
+        pulsed: s.pulsed || event::is_pulse(t.reset_type),
+        ..s
     }
 }
 
-fn fired_by(s: Slot, t: Timer, at: Ticks, tick: Ticks) -> Slot
-    ensures { result ≡ def.fired_at s t (TickOption.SomeTick at) tick.0 }
-{
-    let a = at.0;
-    let n = tick.0;
-    if n < a {
-        return s;
-    }
-    fired_due(s, t, at, tick)
-}
-
-fn fired_at(s: Slot, t: Timer, at: TickOption, tick: Ticks) -> Slot
-    ensures { result ≡ def.fired_at s t at tick.0 }
-{
-    match at {
-        TickOption::NoTick => s,
-        TickOption::SomeTick(x) => fired_by(s, t, x, tick),
-    }
-}
-
-fn fired_timer_slot(s: Slot, t: Timer, tick: Ticks) -> Slot
+fn fired_at(s: Slot, t: Timer, tick: Ticks) -> Slot
     ensures { result ≡ def.fired_at s t t.fire_at tick.0 }
 {
-    let at = t.fire_at;
-    fired_at(s, t, at, tick)
-}
-
-fn fired_as(s: Slot, x: KObject, tick: Ticks) -> Slot
-    ensures { result ≡ def.fired_as s x tick.0 }
-{
-    match x {
-        KObject::Free(_n) => s,
-        KObject::Thread(_u) => s,
-        KObject::Event(_e) => s,
-        KObject::Mutex(_m) => s,
-        KObject::Semaphore(_x) => s,
-        KObject::Timer(t) => fired_timer_slot(s, t, tick),
-        KObject::AddressArbiter(_a) => s,
-        KObject::Process => s,
-        KObject::ResourceLimit => s,
+    match t.fire_at {
+        Some(at) if at.0 <= tick.0 => fired_due(s, t, at, tick),
+        _ => s,
     }
 }
 
 pub fn fired_slot(tick: Ticks, s: Slot) -> Slot
     ensures { result ≡ def.fired_slot tick.0 s }
 {
-    let x = s.object;
-    fired_as(s, x, tick)
+    match s.object {
+        KObject::Timer(t) => fired_at(s, t, tick),
+        _ => s,
+    }
 }
 
+#[tactic(auto, using(laws::specs::Logic::and_yes, laws::specs::Logic::and_no))]
 fn over_by(at: Ticks, interval: Ticks, tick: Ticks) -> bool
     ensures { result ≡ (leb at.0 tick.0 and def.periods_over at.0 interval.0 tick.0) }
 {
-    let a = at.0;
-    let p = interval.0;
-    let n = tick.0;
-    if n < a {
-        return false;
-    }
-    if p == 0 {
-        return false;
-    }
-    18446744073709551615 <= (n - a) / p
+    at.0 <= tick.0 && 0 < interval.0 && u64::MAX <= (tick.0 - at.0) / interval.0
 }
 
-fn over_at(at: TickOption, interval: Ticks, tick: Ticks) -> bool
-    ensures { result ≡ def.over_at at interval.0 tick.0 }
-{
-    match at {
-        TickOption::NoTick => false,
-        TickOption::SomeTick(x) => over_by(x, interval, tick),
-    }
-}
-
-fn over_timer(t: Timer, tick: Ticks) -> bool
+fn over_at(t: Timer, tick: Ticks) -> bool
     ensures { result ≡ def.over_at t.fire_at t.interval.0 tick.0 }
 {
-    let at = t.fire_at;
-    let interval = t.interval;
-    over_at(at, interval, tick)
-}
-
-fn over_of(x: KObject, tick: Ticks) -> bool
-    ensures { result ≡ def.over_of x tick.0 }
-{
-    match x {
-        KObject::Free(_n) => false,
-        KObject::Thread(_u) => false,
-        KObject::Event(_e) => false,
-        KObject::Mutex(_m) => false,
-        KObject::Semaphore(_x) => false,
-        KObject::Timer(t) => over_timer(t, tick),
-        KObject::AddressArbiter(_a) => false,
-        KObject::Process => false,
-        KObject::ResourceLimit => false,
-    }
+    t.fire_at.is_some_and(|at| over_by(at, t.interval, tick))
 }
 
 pub fn slot_over(s: Slot, tick: Ticks) -> bool
     ensures { result ≡ def.over_of s.object tick.0 }
 {
-    let x = s.object;
-    over_of(x, tick)
+    match s.object {
+        KObject::Timer(t) => over_at(t, tick),
+        _ => false,
+    }
 }
 
 pub fn slot_due(s: Slot, tick: Ticks) -> bool
     ensures { result ≡ def.due_by (due_of s.object) tick.0 }
 {
-    let x = s.object;
-    let at = next_event::due_of(x);
-    due_by(at, tick)
+    due_by(next_event::due_of(s.object), tick)
 }

@@ -1,11 +1,10 @@
 -- The test of a state tells that it is sound.
-use Rattle.std.specs.Prelude.{◌≡◌, refl, List, [], ◌∷◌, ℕ, zero, suc, ◌<◌, length}
+use Rattle.std.specs.Prelude.{◌≡◌, refl, List, [], ◌∷◌, ℕ, zero, suc, ◌<◌, length, Option}
 use Rattle.std.proofs.Common.{inl, inr}
 use native.Mathlib.Omega.{arith}
 use Rattle.laws.specs.Logic.{and-true, true-and, lt-cases}
 use Rattle.laws.specs.Test.{Test}
 use Rattle.laws.specs.Count.{count, count_all, ind-other}
-use Rattle.types.specs.declared.thread.ThreadOption.{ThreadOption}
 use Rattle.types.specs.declared.thread.Thread.{Thread}
 use Rattle.types.specs.declared.kernel.Kernel.{Kernel}
 use Rattle.block.proofs.Fits.{StateFits}
@@ -24,7 +23,7 @@ places-far o zero l p z = zeros_count o l (omega arith) z
 places-far o (suc n) [] p z = absurd z
 places-far o (suc n) (x ∷ xs) p z = omega (arith, ind-other x o (omega (arith, z.1.0)), places-far o n xs p z.1.1)
 
-place-far : (o n : ℕ) (c : ThreadOption) (i : ℕ) (t : Thread) → 128 < o → PlaceOk n c i t → count o (ids t.wait_objects) ≡ 0
+place-far : (o n : ℕ) (c : Option ℕ) (i : ℕ) (t : Thread) → 128 < o → PlaceOk n c i t → count o (ids t.wait_objects) ≡ 0
 place-far o n c i t p h =
     elim (lt-cases i n) [
       | inl l ↦ places-far o t.wait_count (ids t.wait_objects) p (h.used l).list

@@ -1,7 +1,7 @@
 -- "each named object live ..; each count = handles + list places + 1 for a kept thread or process object, at least 1; free chain exactly the dead slots;
 -- every thread number named exists, mutex owners not Dead; a kept object is a thread object naming its own thread, or the process object".
 -- `timers` is the set of live timer slots by definition, so nothing is asked of it.
-use Rattle.std.specs.Prelude.{◌≡◌, refl, Bool, true, false, not, List, [], ◌∷◌, ℕ, ◌+◌, ◌-◌, ◌≤◌, ◌<◌, eqb, leb, ltb, length, get_or}
+use Rattle.std.specs.Prelude.{◌≡◌, refl, Bool, true, false, not, List, [], ◌∷◌, ℕ, ◌+◌, ◌-◌, ◌≤◌, ◌<◌, eqb, leb, ltb, length, get_or, Option, Some, None}
 use Rattle.std.proofs.Common.{ap, sym, subst, ◌∙◌, inl, inr, arith}
 use Rattle.std.proofs.lemmas.List.{length-map}
 use Rattle.std.proofs.Math.ListN.{get_or-eq_default}
@@ -12,8 +12,6 @@ use Rattle.laws.specs.Count.{count, count_all, ind, ind-other, ind-same}
 use Rattle.laws.specs.Store.{Store}
 use Rattle.laws.specs.StoreTest.{store?, store-yes, yes-store, at_out}
 use Rattle.units.specs.declared.ObjectId.{ObjectId}
-use Rattle.types.specs.declared.thread.ThreadOption.{ThreadOption}
-use Rattle.types.specs.declared.thread.ThreadOption.TheVariants.{NoThread, SomeThread}
 use Rattle.types.specs.declared.thread.Thread as th
 use Rattle.types.specs.declared.object.KObject.{KObject}
 use Rattle.types.specs.declared.object.KObject.TheVariants.{Free, Thread, Event, Mutex, Semaphore, Timer, AddressArbiter, Process, ResourceLimit}
@@ -194,17 +192,17 @@ t-kept s e =
 abbrev pub Live : List th.Thread → ℕ → Type 0
 Live ts t = is_dead (thread_at ts t).status ≡ false
 
-abbrev pub OwnerOk : List th.Thread → ThreadOption → Type 0
-OwnerOk ts NoThread = Unit {0}
-OwnerOk ts (SomeThread t) = Live ts t
+abbrev pub OwnerOk : List th.Thread → Option ℕ → Type 0
+OwnerOk ts None = Unit {0}
+OwnerOk ts (Some t) = Live ts t
 
-abbrev pub owner? : List th.Thread → ThreadOption → Bool
-owner? ts NoThread = true
-owner? ts (SomeThread t) = not (is_dead (thread_at ts t).status)
+abbrev pub owner? : List th.Thread → Option ℕ → Bool
+owner? ts None = true
+owner? ts (Some t) = not (is_dead (thread_at ts t).status)
 
-t-owner : (ts : List th.Thread) (w : ThreadOption) → Test (owner? ts w) (OwnerOk ts w)
-t-owner ts NoThread = t-yes
-t-owner ts (SomeThread t) = t_not (is_dead (thread_at ts t).status)
+t-owner : (ts : List th.Thread) (w : Option ℕ) → Test (owner? ts w) (OwnerOk ts w)
+t-owner ts None = t-yes
+t-owner ts (Some t) = t_not (is_dead (thread_at ts t).status)
 
 abbrev pub ContentOk : ℕ → List th.Thread → KObject → Type 0
 ContentOk n ts (Free x) = Unit {0}

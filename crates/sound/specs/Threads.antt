@@ -1,12 +1,10 @@
 -- "Threads at most 32, priorities at most 63, known statuses ..; at most the current thread Running, it never Dead; lists only in waiting threads".
 -- Known statuses are asked by the canonical test of the block.
-use Rattle.std.specs.Prelude.{◌≡◌, Bool, true, false, not, ◌≢◌, List, [], ◌∷◌, ℕ, zero, suc, ◌≤◌, ◌<◌, eqb, leb, ltb}
+use Rattle.std.specs.Prelude.{◌≡◌, Bool, true, false, not, ◌≢◌, List, [], ◌∷◌, ℕ, zero, suc, ◌≤◌, ◌<◌, eqb, leb, ltb, Option, Some, None}
 use Rattle.std.proofs.Common.{ap, arith}
 use Rattle.laws.specs.Logic.{pick, ◌and◌}
 use Rattle.laws.specs.Test.{Test, t-yes, t-no, t_never, t-eq, t-le, t-lt, t-and, t_as}
 use Rattle.laws.specs.Numbers.{all_below}
-use Rattle.types.specs.declared.thread.ThreadOption.{ThreadOption}
-use Rattle.types.specs.declared.thread.ThreadOption.TheVariants.{NoThread, SomeThread}
 use Rattle.types.specs.declared.thread.ThreadStatus.{ThreadStatus}
 use Rattle.types.specs.declared.thread.ThreadStatus.TheVariants.{Dead, Running, Ready, Sleeping, WaitSync, WaitArbiter, Dormant}
 use Rattle.types.specs.declared.thread.Thread.{Thread}
@@ -64,24 +62,24 @@ only? WaitArbiter n = eqb n 0
 only? Dormant n = eqb n 0
 
 -- ---- at most the current thread Running, it never Dead
-abbrev pub is_current : ThreadOption → ℕ → Bool
-is_current NoThread i = false
-is_current (SomeThread t) i = eqb t i
+abbrev pub is_current : Option ℕ → ℕ → Bool
+is_current None i = false
+is_current (Some t) i = eqb t i
 
-pub t-is_current : (c : ThreadOption) (i : ℕ) → Test (is_current c i) (c ≡ SomeThread i)
-t-is_current NoThread i = t_never (λ e. let z : ◌≡◌ {A = ℕ} 0 1 = cc in omega arith)
-t-is_current (SomeThread t) i = t_as (λ e. ap SomeThread e) (λ e. cc) (t-eq t i)
+pub t-is_current : (c : Option ℕ) (i : ℕ) → Test (is_current c i) (c ≡ Some i)
+t-is_current None i = t_never (λ e. let z : ◌≡◌ {A = ℕ} 0 1 = cc in omega arith)
+t-is_current (Some t) i = t_as (λ e. ap Some e) (λ e. cc) (t-eq t i)
 
-abbrev pub RunOk : ThreadStatus → ThreadOption → ℕ → Type 0
-RunOk Dead c i = c ≢ SomeThread i
-RunOk Running c i = c ≡ SomeThread i
+abbrev pub RunOk : ThreadStatus → Option ℕ → ℕ → Type 0
+RunOk Dead c i = c ≢ Some i
+RunOk Running c i = c ≡ Some i
 RunOk Ready c i = Unit {0}
 RunOk Sleeping c i = Unit {0}
 RunOk WaitSync c i = Unit {0}
 RunOk WaitArbiter c i = Unit {0}
 RunOk Dormant c i = Unit {0}
 
-abbrev pub run? : ThreadStatus → ThreadOption → ℕ → Bool
+abbrev pub run? : ThreadStatus → Option ℕ → ℕ → Bool
 run? Dead c i = not (is_current c i)
 run? Running c i = is_current c i
 run? Ready c i = true
@@ -91,13 +89,13 @@ run? WaitArbiter c i = true
 run? Dormant c i = true
 
 -- ---- a place in use
-pub record ThreadOk (c : ThreadOption) (i : ℕ) (t : Thread) : Type 0 where
+pub record ThreadOk (c : Option ℕ) (i : ℕ) (t : Thread) : Type 0 where
   pub priority : t.priority ≤ 63
   pub run : RunOk t.status c i
   pub list : Places t.wait_count (ids t.wait_objects)
   pub only : Only t.status t.wait_count
 
-unfoldable pub thread? : ThreadOption → ℕ → Thread → Bool
+unfoldable pub thread? : Option ℕ → ℕ → Thread → Bool
 thread? c i t = leb t.priority 63 and (run? t.status c i and (places? t.wait_count (ids t.wait_objects) and only? t.status t.wait_count))
 
 -- ---- a place not in use is all zero
@@ -108,31 +106,31 @@ unfoldable pub blank? : Thread → Bool
 blank? t = zeros? (words_list (thread_words t)) and zeros? (ids t.wait_objects)
 
 -- ---- every place: the first n are in use
-unfoldable pub place? : ℕ → ThreadOption → ℕ → Thread → Bool
+unfoldable pub place? : ℕ → Option ℕ → ℕ → Thread → Bool
 place? n c i t = pick (ltb i n) (thread? c i t) (blank? t)
 
-pub record PlaceOk (n : ℕ) (c : ThreadOption) (i : ℕ) (t : Thread) : Type 0 where
+pub record PlaceOk (n : ℕ) (c : Option ℕ) (i : ℕ) (t : Thread) : Type 0 where
   pub used : i < n → ThreadOk c i t
   pub unused : n ≤ i → Blank t
 
 -- ---- the current thread exists
-abbrev pub CurrentOk : ThreadOption → ℕ → Type 0
-CurrentOk NoThread n = Unit {0}
-CurrentOk (SomeThread t) n = t < n
+abbrev pub CurrentOk : Option ℕ → ℕ → Type 0
+CurrentOk None n = Unit {0}
+CurrentOk (Some t) n = t < n
 
-abbrev pub current? : ThreadOption → ℕ → Bool
-current? NoThread n = true
-current? (SomeThread t) n = ltb t n
+abbrev pub current? : Option ℕ → ℕ → Bool
+current? None n = true
+current? (Some t) n = ltb t n
 
-pub t-current : (c : ThreadOption) (n : ℕ) → Test (current? c n) (CurrentOk c n)
-t-current NoThread n = t-yes
-t-current (SomeThread t) n = t-lt t n
+pub t-current : (c : Option ℕ) (n : ℕ) → Test (current? c n) (CurrentOk c n)
+t-current None n = t-yes
+t-current (Some t) n = t-lt t n
 
 -- ---- the whole table
-unfoldable pub threads? : ℕ → ThreadOption → List Thread → Bool
+unfoldable pub threads? : ℕ → Option ℕ → List Thread → Bool
 threads? n c ts = leb n 32 and (current? c n and all_below 32 (λ i. place? n c i (thread_at ts i)))
 
-pub record ThreadsOk (n : ℕ) (c : ThreadOption) (ts : List Thread) : Type 0 where
+pub record ThreadsOk (n : ℕ) (c : Option ℕ) (ts : List Thread) : Type 0 where
   pub many : n ≤ 32
   pub current : CurrentOk c n
   pub each : (i : ℕ) → i < 32 → PlaceOk n c i (thread_at ts i)

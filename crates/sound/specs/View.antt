@@ -1,5 +1,5 @@
 -- What the clauses of question 2 look at: columns of the tables, and the cells of slots.
-use Rattle.std.specs.Prelude.{◌≡◌, refl, Bool, false, ◌≢◌, List, [], map, ℕ, zero, suc, ◌-◌, ◌≤◌, ◌<◌, length, get_or}
+use Rattle.std.specs.Prelude.{◌≡◌, refl, Bool, false, ◌≢◌, List, [], map, ℕ, zero, suc, ◌-◌, ◌≤◌, ◌<◌, length, get_or, None}
 use Rattle.std.proofs.Common.{ap, sym, ◌∙◌, inl, inr, arith}
 use Rattle.std.proofs.Math.ListN.{get_or-map, get_or-eq_default}
 use Rattle.laws.specs.Count.{at}
@@ -7,11 +7,7 @@ use Rattle.laws.specs.Numbers.{all_to, t-all_to, cell-cases}
 use Rattle.laws.specs.Test.{Test, t_as}
 use Rattle.units.specs.declared.ObjectId.{ObjectId}
 use Rattle.types.specs.declared.thread.Thread.{Thread}
-use Rattle.types.specs.declared.thread.TickOption.TheVariants.{NoTick}
-use Rattle.types.specs.declared.thread.AddressOption.TheVariants.{NoAddress}
 use Rattle.types.specs.declared.thread.ThreadStatus.TheVariants.{Dead}
-use Rattle.types.specs.declared.thread.WaitResult.TheVariants.{NoResult}
-use Rattle.types.specs.declared.thread.WaitSyscall.TheVariants.{NoSyscall}
 use Rattle.types.specs.declared.object.KObject.{KObject}
 use Rattle.types.specs.declared.object.KObject.TheVariants.{Free}
 use Rattle.types.specs.declared.object.Slot.{Slot}
@@ -69,12 +65,12 @@ no_thread = record {
   wait_objects = [];
   wait_count = 0;
   wait_all = false;
-  wakeup_at = NoTick;
+  wakeup_at = None;
   running_since = record { 0 = 0 };
   waited = false;
-  wait_address = NoAddress;
-  wait_result = NoResult;
-  wait_syscall = NoSyscall;
+  wait_address = None;
+  wait_result = None;
+  wait_syscall = None;
   guest_id = 0;
 }
 

@@ -4,13 +4,8 @@
 ghost use Rattle.std.specs.Prelude.{◌≡◌};
 ghost use Rattle.sound.specs.Threads.{is_current};
 
-use types::thread::ThreadOption;
-
-pub fn is_current(c: ThreadOption, i: u32) -> bool
+pub fn is_current(c: Option<u32>, i: u32) -> bool
     ensures { result ≡ is_current c i }
 {
-    match c {
-        ThreadOption::NoThread => false,
-        ThreadOption::SomeThread(t) => t == i,
-    }
+    c == Some(i)
 }

@@ -1,5 +1,5 @@
 -- A wait that ends, and a thread that ends, leave a sound state.
-use Rattle.std.specs.Prelude.{◌≡◌, Bool, true, false, ◌≢◌, set}
+use Rattle.std.specs.Prelude.{◌≡◌, Bool, true, false, ◌≢◌, set, Option, Some, None}
 use Rattle.std.proofs.Math.Path.{refl, ap}
 use Rattle.std.proofs.Common.{sym, subst, ◌∙◌, inl, inr, arith, eqb-true}
 use mathlib.Core.List.{List, [], ◌∷◌, map}
@@ -9,20 +9,16 @@ use Rattle.std.proofs.lemmas.Bool.{eqb-false}
 use Rattle.laws.specs.Logic.{pick}
 use Rattle.laws.specs.All.{All, all_set}
 use Rattle.laws.specs.Count.{count, ind-cases}
-use Rattle.types.specs.declared.thread.ThreadOption.{ThreadOption}
-use Rattle.types.specs.declared.thread.ThreadOption.TheVariants.{NoThread, SomeThread}
 use Rattle.types.specs.declared.thread.ThreadStatus.{ThreadStatus}
 use Rattle.types.specs.declared.thread.ThreadStatus.TheVariants.{Dead, Running, Ready, Sleeping, WaitSync, WaitArbiter, Dormant}
-use Rattle.types.specs.declared.thread.WaitResult.TheVariants.{NoResult}
-use Rattle.types.specs.declared.thread.WaitSyscall.TheVariants.{NoSyscall}
 use Rattle.types.specs.declared.thread.Thread as th
 use Rattle.types.specs.declared.sync.Mutex as mu
 use Rattle.types.specs.declared.object.KObject.{KObject}
 use Rattle.types.specs.declared.object.KObject.TheVariants.{Free, Thread, Event, Mutex, Semaphore, Timer, AddressArbiter, Process, ResourceLimit}
 use Rattle.types.specs.declared.object.Slot.{Slot}
 use Rattle.types.specs.declared.kernel.Kernel.{Kernel}
-use Rattle.types.specs.Thread.{is_dead, thread_value}
-use Rattle.block.proofs.Enums.{status-fits, result_fits, syscall_fits, thread-flag-fits}
+use Rattle.types.specs.Thread.{is_dead, option_value}
+use Rattle.block.proofs.Enums.{status-fits, result_fits, syscall_fits, option-flag-fits}
 use Rattle.block.proofs.Fits.{ThreadFits}
 use Rattle.sound.specs.View.{ids, slot_at, object_at, thread_at}
 use Rattle.sound.specs.Threads.{Zeros, Places, Only, is_current, RunOk, ThreadOk, CurrentOk}
@@ -65,7 +61,7 @@ clear_wait-fits t f =
 ended-fits : (t : th.Thread) → ThreadFits t → ThreadFits (ended t)
 ended-fits t f =
     let a = f.0 in
-    ((status-fits Dead, (a.1.0, (a.1.1.0, (a.1.1.1.0, (a.1.1.1.1.0, (a.1.1.1.1.1.0, (a.1.1.1.1.1.1.0, (a.1.1.1.1.1.1.1.0, (a.1.1.1.1.1.1.1.1.0, (a.1.1.1.1.1.1.1.1.1.0, (a.1.1.1.1.1.1.1.1.1.1.0, (a.1.1.1.1.1.1.1.1.1.1.1.0, (result_fits NoResult, (z4, (syscall_fits NoSyscall, (a.1.1.1.1.1.1.1.1.1.1.1.1.1.1.1.0, (a.1.1.1.1.1.1.1.1.1.1.1.1.1.1.1.1.0, (a.1.1.1.1.1.1.1.1.1.1.1.1.1.1.1.1.1.0, tt)))))))))))))))))), f.1, f.2)
+    ((status-fits Dead, (a.1.0, (a.1.1.0, (a.1.1.1.0, (a.1.1.1.1.0, (a.1.1.1.1.1.0, (a.1.1.1.1.1.1.0, (a.1.1.1.1.1.1.1.0, (a.1.1.1.1.1.1.1.1.0, (a.1.1.1.1.1.1.1.1.1.0, (a.1.1.1.1.1.1.1.1.1.1.0, (a.1.1.1.1.1.1.1.1.1.1.1.0, (result_fits None, (z4, (syscall_fits None, (a.1.1.1.1.1.1.1.1.1.1.1.1.1.1.1.0, (a.1.1.1.1.1.1.1.1.1.1.1.1.1.1.1.1.0, (a.1.1.1.1.1.1.1.1.1.1.1.1.1.1.1.1.1.0, tt)))))))))))))))))), f.1, f.2)
 
 pub fits-at : (ts : List th.Thread) (i : ℕ) → i < length ts → All ThreadFits ts → ThreadFits (thread_at ts i)
 fits-at [] i l a = absurd (omega arith)
@@ -114,7 +110,7 @@ module _ (k : Kernel) (t : ℕ) (l : t < k.thread_count) (p : Parts k) where
       let os : List ℕ = take old.wait_count (ids old.wait_objects) in
       let pos = places-pos old.wait_count (ids old.wait_objects) used.list in
       let n : ℕ = k.thread_count in
-      let c : ThreadOption = k.current_thread in
+      let c : (Option ℕ) = k.current_thread in
       record {
         ob = end-wait-ok k.handles ts t v in_list k.objects used.list (no-list old) p.ob;
         contents = each-releases (ContentOk n (set ts t v)) (content-free n (set ts t v)) os k.objects
@@ -149,8 +145,8 @@ disowned-shape t (AddressArbiter a) = refl
 disowned-shape t Process = refl
 disowned-shape t ResourceLimit = refl
 
-mutex_fits : (b : Bool) (m : mu.Mutex) → KeepsFit (Mutex m) → KeepsFit (Mutex (pick b (record { owner = NoThread; lock_count = 0 }) m))
-mutex_fits true m f = record { kind = f.kind; a = thread-flag-fits NoThread; b = z4; c = z4; x = z8; y = z8 }
+mutex_fits : (b : Bool) (m : mu.Mutex) → KeepsFit (Mutex m) → KeepsFit (Mutex (pick b (record { owner = None; lock_count = 0 }) m))
+mutex_fits true m f = record { kind = f.kind; a = option-flag-fits {A = ℕ} None; b = z4; c = z4; x = z8; y = z8 }
 mutex_fits false m f = f
 
 disowned-fits : (t : ℕ) (x : KObject) → KeepsFit x → KeepsFit (disowned t x)
@@ -166,12 +162,12 @@ disowned-fits t ResourceLimit f = f
 
 -- ---- who owns what, once thread t is another
 module _ (n : ℕ) (ts : List th.Thread) (t : ℕ) (v : th.Thread) where
-  owner-other : (w : ThreadOption) → is_current w t ≡ false → OwnerOk ts w → OwnerOk (set ts t v) w
-  owner-other NoThread e o = tt
-  owner-other (SomeThread u) e o = live-ended ts t v u (eqb-false u t e) o
+  owner-other : (w : Option ℕ) → is_current w t ≡ false → OwnerOk ts w → OwnerOk (set ts t v) w
+  owner-other None e o = tt
+  owner-other (Some u) e o = live-ended ts t v u (eqb-false u t e) o
 
   mutex_content : (b : Bool) (m : mu.Mutex) → is_current m.owner t ≡ b → OwnerOk ts m.owner
-      → OwnerOk (set ts t v) (pick {A = mu.Mutex} b (record { owner = NoThread; lock_count = 0 }) m).owner
+      → OwnerOk (set ts t v) (pick {A = mu.Mutex} b (record { owner = None; lock_count = 0 }) m).owner
   mutex_content true m e o = tt
   mutex_content false m e o = owner-other m.owner e o
 
@@ -200,22 +196,22 @@ each-changed P Q g z e (x ∷ l) h (suc (suc i)) = each-changed P Q g z e l (aft
     after l h (suc j) = h (suc (suc j))
 
 -- ---- nobody runs in its place
-left_if : (b : Bool) (c : ThreadOption) (t : ℕ) → is_current c t ≡ b → pick b NoThread c ≢ SomeThread t
+left_if : (b : Bool) (c : Option ℕ) (t : ℕ) → is_current c t ≡ b → pick b None c ≢ Some t
 left_if true c t e q = let z : ◌≡◌ {A = ℕ} 0 1 = cc in omega arith
-left_if false c t e q = eqb-false t t (sym (ap (λ (x : ThreadOption). is_current x t) q) ∙ e) refl
+left_if false c t e q = eqb-false t t (sym (ap (λ (x : Option ℕ). is_current x t) q) ∙ e) refl
 
-left_not : (c : ThreadOption) (t : ℕ) → left_by c t ≢ SomeThread t
+left_not : (c : Option ℕ) (t : ℕ) → left_by c t ≢ Some t
 left_not c t = left_if (is_current c t) c t refl
 
-left_other : (b : Bool) (c : ThreadOption) (t j : ℕ) → is_current c t ≡ b → j ≢ t → c ≡ SomeThread j → pick b NoThread c ≡ SomeThread j
-left_other true c t j e n q = absurd (n (eqb-true j t (sym (ap (λ (x : ThreadOption). is_current x t) q) ∙ e)))
+left_other : (b : Bool) (c : Option ℕ) (t j : ℕ) → is_current c t ≡ b → j ≢ t → c ≡ Some j → pick b None c ≡ Some j
+left_other true c t j e n q = absurd (n (eqb-true j t (sym (ap (λ (x : Option ℕ). is_current x t) q) ∙ e)))
 left_other false c t j e n q = q
 
-left-none : (b : Bool) (c : ThreadOption) (j : ℕ) → c ≢ SomeThread j → pick b NoThread c ≢ SomeThread j
+left-none : (b : Bool) (c : Option ℕ) (j : ℕ) → c ≢ Some j → pick b None c ≢ Some j
 left-none true c j n q = let z : ◌≡◌ {A = ℕ} 0 1 = cc in omega arith
 left-none false c j n q = n q
 
-left-run : (c : ThreadOption) (t j : ℕ) → j ≢ t → (s : ThreadStatus) → RunOk s c j → RunOk s (left_by c t) j
+left-run : (c : Option ℕ) (t j : ℕ) → j ≢ t → (s : ThreadStatus) → RunOk s c j → RunOk s (left_by c t) j
 left-run c t j n Dead r = left-none (is_current c t) c j r
 left-run c t j n Running r = left_other (is_current c t) c t j refl n r
 left-run c t j n Ready r = tt
@@ -224,11 +220,11 @@ left-run c t j n WaitSync r = tt
 left-run c t j n WaitArbiter r = tt
 left-run c t j n Dormant r = tt
 
-left-current : (b : Bool) (c : ThreadOption) (n : ℕ) → CurrentOk c n → CurrentOk (pick b NoThread c) n
+left-current : (b : Bool) (c : Option ℕ) (n : ℕ) → CurrentOk c n → CurrentOk (pick b None c) n
 left-current true c n h = tt
 left-current false c n h = h
 
-left_word : (b : Bool) (c : ThreadOption) → Word (thread_value c) → Word (thread_value (pick b NoThread c))
+left_word : (b : Bool) (c : Option ℕ) → Word (option_value c) → Word (option_value (pick b None c))
 left_word true c h = z4
 left_word false c h = h
 
@@ -240,7 +236,7 @@ module _ (k : Kernel) (t : ℕ) (l : t < k.thread_count) (w : (thread_at k.threa
       let old : th.Thread = thread_at ts t in
       let v : th.Thread = ended old in
       let n : ℕ = k.thread_count in
-      let c : ThreadOption = k.current_thread in
+      let c : (Option ℕ) = k.current_thread in
       let m : t < 32 = in_table k t l p in
       let i : t < length ts = in_list k t l p in
       let u : ThreadOk c t old = used k t l p in

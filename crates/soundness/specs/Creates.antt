@@ -1,12 +1,10 @@
 -- A new thread keeps a state sound, in the place of an ended thread or in the next one.
-use Rattle.std.specs.Prelude.{◌≡◌, refl, Bool, true, false, ◌≢◌, List, ℕ, zero, suc, ◌+◌, ◌^◌, ◌≤◌, ◌<◌, eqb, leb, ltb, length, set}
+use Rattle.std.specs.Prelude.{◌≡◌, refl, Bool, true, false, ◌≢◌, List, ℕ, zero, suc, ◌+◌, ◌^◌, ◌≤◌, ◌<◌, eqb, leb, ltb, length, set, Option, Some, None}
 use Rattle.std.proofs.Common.{sym, subst, ◌∙◌, inl, inr, arith, length-set, leb-false, ltb-true, ltb-false}
 use Rattle.std.proofs.lemmas.Bool.{eqb-false, lt-leb}
 use Rattle.laws.specs.Logic.{pick, pick_no, ◌and◌, ◌or◌, and-true, or-false, lt-cases}
 use Rattle.laws.specs.All.{all_set, all_get, all_map}
 use Rattle.units.specs.declared.ObjectId.{ObjectId}
-use Rattle.types.specs.declared.thread.ThreadOption.{ThreadOption}
-use Rattle.types.specs.declared.thread.ThreadOption.TheVariants.{NoThread, SomeThread}
 use Rattle.types.specs.declared.thread.ThreadStatus.{ThreadStatus}
 use Rattle.types.specs.declared.thread.ThreadStatus.TheVariants.{Dead, Running, Ready, Sleeping, WaitSync, WaitArbiter, Dormant}
 use Rattle.types.specs.declared.thread.Thread.{Thread}
@@ -147,7 +145,7 @@ ended-dead k h l =
 pub new_zeros : (entry stack priority processor tls guest : ℕ) → Zeros (ids (new_thread entry stack priority processor tls guest).wait_objects)
 new_zeros entry stack priority processor tls guest = no-objects
 
-pub new-place : (n : ℕ) (c : ThreadOption) (i entry stack priority processor tls guest : ℕ) → i < n → priority ≤ 63 → PlaceOk n c i (new_thread entry stack priority processor tls guest)
+pub new-place : (n : ℕ) (c : Option ℕ) (i entry stack priority processor tls guest : ℕ) → i < n → priority ≤ 63 → PlaceOk n c i (new_thread entry stack priority processor tls guest)
 new-place n c i entry stack priority processor tls guest l p = record {
   used = λ u. record { priority = p; run = tt; list = new_zeros entry stack priority processor tls guest; only = refl };
   unused = λ u. absurd (omega arith);
@@ -165,9 +163,9 @@ new-fits entry stack priority processor tls guest we ws p wp wt wg =
       refl,
     )
 
-pub current-more : (c : ThreadOption) (n m : ℕ) → n ≤ m → CurrentOk c n → CurrentOk c m
-current-more NoThread n m l h = tt
-current-more (SomeThread t) n m l h = omega arith
+pub current-more : (c : Option ℕ) (n m : ℕ) → n ≤ m → CurrentOk c n → CurrentOk c m
+current-more None n m l h = tt
+current-more (Some t) n m l h = omega arith
 
 -- its TLS slot is a number of 32 bits
 tls-small : (k : Kernel) → Word (tls_slot k)
@@ -189,7 +187,7 @@ grown n i l t m false e =
     subst (Grown n i) (sym (pick_no (leb 32 n) n (n + 1) (lt-leb 32 n (omega arith))))
     (record { more = omega arith; most = omega arith; new = omega arith; old = λ j a b. omega (arith, a) })
 
-others : (n i m : ℕ) (c : ThreadOption) (ts : List Thread) (v : Thread) → Grown n i m → Others n m c c ts i v
+others : (n i m : ℕ) (c : Option ℕ) (ts : List Thread) (v : Thread) → Grown n i m → Others n m c c ts i v
 others n i m c ts v g = record { run = λ j e s h. h; used = g.old; unused = λ j e l. omega (arith, g.more) }
 
 -- ---- `create_thread`

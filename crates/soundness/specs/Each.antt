@@ -1,11 +1,9 @@
 -- What holds of every object stays so under each primitive, if what the primitive writes has it.
-use Rattle.std.specs.Prelude.{Bool, eqb, leb, set}
+use Rattle.std.specs.Prelude.{Bool, eqb, leb, set, Option, Some, None}
 use Rattle.std.proofs.Math.Bool.{true, false}
 use mathlib.Core.List.{List, [], ◌∷◌}
 use Prim.Native.Nat.{ℕ, zero, suc}
 use Rattle.laws.specs.Logic.{pick}
-use Rattle.types.specs.declared.thread.ThreadOption.{ThreadOption}
-use Rattle.types.specs.declared.thread.ThreadOption.TheVariants.{NoThread, SomeThread}
 use Rattle.types.specs.declared.thread.Thread as th
 use Rattle.types.specs.declared.object.KObject.{KObject}
 use Rattle.types.specs.declared.object.KObject.TheVariants.{Free, Thread, Event, Mutex, Semaphore, Timer, AddressArbiter, Process, ResourceLimit}
@@ -55,21 +53,21 @@ module _ (P : KObject → Type 0) where
   each-process_object s p h = each-process_if (eqb s.process_object.0 0) s p h
 
   -- the object of the current thread
-  abbrev pub OfCurrent : ThreadOption → Type 0
-  OfCurrent NoThread = Unit {0}
-  OfCurrent (SomeThread t) = P (Thread t)
+  abbrev pub OfCurrent : Option ℕ → Type 0
+  OfCurrent None = Unit {0}
+  OfCurrent (Some t) = P (Thread t)
 
-  each-current : (c : ThreadOption) (s : ObjectStore) → OfCurrent c → Each P s → Each P (of_current s c).store
-  each-current NoThread s p h = h
-  each-current (SomeThread t) s p h = each-thread_object s t p h
+  each-current : (c : Option ℕ) (s : ObjectStore) → OfCurrent c → Each P s → Each P (of_current s c).store
+  each-current None s p h = h
+  each-current (Some t) s p h = each-thread_object s t p h
 
-  each-resolve_if : (a b : Bool) (c : ThreadOption) (t : HandleTable) (s : ObjectStore) (h : ℕ) → OfCurrent c → P Process → Each P s
+  each-resolve_if : (a b : Bool) (c : Option ℕ) (t : HandleTable) (s : ObjectStore) (h : ℕ) → OfCurrent c → P Process → Each P s
       → Each P (pick a (of_current s c) (pick b (record { object = (process_object s).process_object; store = process_object s }) (record { object = record { 0 = object_of t h }; store = s }))).store
   each-resolve_if true b c t s h p q e = each-current c s p e
   each-resolve_if false true c t s h p q e = each-process_object s q e
   each-resolve_if false false c t s h p q e = e
 
-  pub each-resolve : (c : ThreadOption) (t : HandleTable) (s : ObjectStore) (h : ℕ) → OfCurrent c → P Process → Each P s → Each P (resolve c t s h).store
+  pub each-resolve : (c : Option ℕ) (t : HandleTable) (s : ObjectStore) (h : ℕ) → OfCurrent c → P Process → Each P s → Each P (resolve c t s h).store
   unfolding resolve
   each-resolve c t s h p q e = each-resolve_if (eqb h 0xFFFF8000) (eqb h 0xFFFF8001) c t s h p q e
 

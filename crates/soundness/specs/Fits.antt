@@ -1,5 +1,5 @@
 -- Widths: each primitive keeps every number of the component within its field.
-use Rattle.std.specs.Prelude.{◌≡◌, refl, Bool, List, [], ◌∷◌, ◌++◌, map, ℕ, zero, suc, ◌+◌, ◌^◌, ◌<◌, eqb, leb, set, replicate}
+use Rattle.std.specs.Prelude.{◌≡◌, refl, Bool, List, [], ◌∷◌, ◌++◌, map, ℕ, zero, suc, ◌+◌, ◌^◌, ◌<◌, eqb, leb, set, replicate, Option, Some, None}
 use Rattle.std.proofs.Math.Bool.{true, false}
 use Rattle.std.proofs.Common.{arith}
 use Rattle.std.proofs.Math.Dec.{ltb}
@@ -8,8 +8,6 @@ use Rattle.laws.specs.Logic.{pick}
 use Rattle.laws.specs.All.{All, all_set, all_get, all_map, all_as, all_replicate}
 use Rattle.laws.specs.Count.{at}
 use Rattle.laws.specs.Walk.{walk}
-use Rattle.types.specs.declared.thread.ThreadOption.{ThreadOption}
-use Rattle.types.specs.declared.thread.ThreadOption.TheVariants.{NoThread, SomeThread}
 use Rattle.types.specs.declared.object.KObject.{KObject}
 use Rattle.types.specs.declared.object.KObject.TheVariants.{Free, Thread, Event, Mutex, Semaphore, Timer, AddressArbiter, Process, ResourceLimit}
 use Rattle.types.specs.declared.object.Slot.{Slot}
@@ -296,21 +294,21 @@ module _ (s : ObjectStore) (f : StoreFits s) where
 pub unkept-fits : (s : ObjectStore) (t : ℕ) → StoreFits s → StoreFits (unkept s t)
 unkept-fits s t f = record { slots = f.slots; free = f.free; waiters = f.waiters; free_waiter = f.free_waiter; ids = all_set IdFits s.thread_objects t z4 f.ids; process = f.process }
 
-abbrev pub CurrentFits : ThreadOption → Type 0
-CurrentFits NoThread = Unit {0}
-CurrentFits (SomeThread t) = Word t
+abbrev pub CurrentFits : Option ℕ → Type 0
+CurrentFits None = Unit {0}
+CurrentFits (Some t) = Word t
 
-current-fits : (c : ThreadOption) (s : ObjectStore) → CurrentFits c → StoreFits s → StoreFits (of_current s c).store
-current-fits NoThread s w f = f
-current-fits (SomeThread t) s w f = thread_object-fits s f t w
+current-fits : (c : Option ℕ) (s : ObjectStore) → CurrentFits c → StoreFits s → StoreFits (of_current s c).store
+current-fits None s w f = f
+current-fits (Some t) s w f = thread_object-fits s f t w
 
-resolve-fits_if : (a b : Bool) (c : ThreadOption) (t : HandleTable) (s : ObjectStore) (h : ℕ) → CurrentFits c → StoreFits s
+resolve-fits_if : (a b : Bool) (c : Option ℕ) (t : HandleTable) (s : ObjectStore) (h : ℕ) → CurrentFits c → StoreFits s
     → StoreFits (pick a (of_current s c) (pick b (record { object = (process_object s).process_object; store = process_object s }) (record { object = record { 0 = object_of t h }; store = s }))).store
 resolve-fits_if true b c t s h w f = current-fits c s w f
 resolve-fits_if false true c t s h w f = process_object-fits s f
 resolve-fits_if false false c t s h w f = f
 
-pub resolve-fits : (c : ThreadOption) (t : HandleTable) (s : ObjectStore) (h : ℕ) → CurrentFits c → StoreFits s → StoreFits (resolve c t s h).store
+pub resolve-fits : (c : Option ℕ) (t : HandleTable) (s : ObjectStore) (h : ℕ) → CurrentFits c → StoreFits s → StoreFits (resolve c t s h).store
 unfolding resolve
 resolve-fits c t s h w f = resolve-fits_if (eqb h 0xFFFF8000) (eqb h 0xFFFF8001) c t s h w f
 

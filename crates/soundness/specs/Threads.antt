@@ -1,10 +1,8 @@
 -- The thread table after one place is changed: who may run, lists, names, and what objects say of threads.
-use Rattle.std.specs.Prelude.{◌≡◌, true, false, ◌≢◌, List, ℕ, ◌-◌, ◌≤◌, ◌<◌, length, set}
+use Rattle.std.specs.Prelude.{◌≡◌, true, false, ◌≢◌, List, ℕ, ◌-◌, ◌≤◌, ◌<◌, length, set, Option, Some, None}
 use Rattle.std.proofs.Common.{sym, subst, inl, inr, arith, get_or-set_same, get_or-set_other}
 use Rattle.laws.specs.Logic.{lt-cases}
 use Rattle.laws.specs.Count.{ind-cases}
-use Rattle.types.specs.declared.thread.ThreadOption.{ThreadOption}
-use Rattle.types.specs.declared.thread.ThreadOption.TheVariants.{NoThread, SomeThread}
 use Rattle.types.specs.declared.thread.ThreadStatus.{ThreadStatus}
 use Rattle.types.specs.declared.thread.ThreadStatus.TheVariants.{Dead, Running, Ready, Sleeping, WaitSync, WaitArbiter, Dormant}
 use Rattle.types.specs.declared.thread.Thread as th
@@ -25,7 +23,7 @@ thread-same ts i v h = get_or-set_same ts i v no_thread h
 pub thread-other : (ts : List th.Thread) (i j : ℕ) (v : th.Thread) → j ≢ i → thread_at (set ts i v) j ≡ thread_at ts j
 thread-other ts i j v n = get_or-set_other ts i j v no_thread n
 
-module _ (n n' : ℕ) (c c' : ThreadOption) (ts : List th.Thread) (i : ℕ) (v : th.Thread) where
+module _ (n n' : ℕ) (c c' : Option ℕ) (ts : List th.Thread) (i : ℕ) (v : th.Thread) where
   -- what holds of the other places still holds of them
   pub record Others : Type 0 where
     pub run : (j : ℕ) → j ≢ i → (s : ThreadStatus) → RunOk s c j → RunOk s c' j
@@ -50,14 +48,14 @@ module _ (n n' : ℕ) (c c' : ThreadOption) (ts : List th.Thread) (i : ℕ) (v :
 
 -- ---- lists
 -- a thread that is not waiting on objects has no list
-pub no-list : (n : ℕ) (c : ThreadOption) (i : ℕ) (t : th.Thread) → t.wait_count ≡ 0 → PlaceOk n c i t → Zeros (ids t.wait_objects)
+pub no-list : (n : ℕ) (c : Option ℕ) (i : ℕ) (t : th.Thread) → t.wait_count ≡ 0 → PlaceOk n c i t → Zeros (ids t.wait_objects)
 no-list n c i t e p =
     elim (lt-cases i n) [
       | inl l ↦ subst (λ (k : ℕ). Places k (ids t.wait_objects)) e (p.used l).list
       | inr l ↦ (p.unused l).1
     ]
 
-pub dead-list : (n : ℕ) (c : ThreadOption) (i : ℕ) (t : th.Thread) → is_dead t.status ≡ true → PlaceOk n c i t → Zeros (ids t.wait_objects)
+pub dead-list : (n : ℕ) (c : Option ℕ) (i : ℕ) (t : th.Thread) → is_dead t.status ≡ true → PlaceOk n c i t → Zeros (ids t.wait_objects)
 dead-list n c i t d p =
     elim (lt-cases i n) [
       | inl l ↦ subst (λ (k : ℕ). Places k (ids t.wait_objects)) (count-zero t.status t.wait_count d (p.used l).only) (p.used l).list
@@ -87,9 +85,9 @@ content-more n n' ts ts' h f (Thread t) c = omega (arith, c)
 content-more n n' ts ts' h f (Event e) c = tt
 content-more n n' ts ts' h f (Mutex m) c = owner m.owner c
   where
-    owner : (w : ThreadOption) → OwnerOk ts w → OwnerOk ts' w
-    owner NoThread o = tt
-    owner (SomeThread t) o = f t o
+    owner : (w : Option ℕ) → OwnerOk ts w → OwnerOk ts' w
+    owner None o = tt
+    owner (Some t) o = f t o
 content-more n n' ts ts' h f (Semaphore s) c = tt
 content-more n n' ts ts' h f (Timer t) c = tt
 content-more n n' ts ts' h f (AddressArbiter a) c = tt

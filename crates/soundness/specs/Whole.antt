@@ -4,10 +4,10 @@ use Rattle.std.proofs.Common.{arith}
 use Rattle.laws.specs.All.{All}
 use Rattle.laws.specs.Count.{count, count_all}
 use Rattle.types.specs.declared.kernel.Kernel.{Kernel}
-use Rattle.types.specs.Thread.{thread_value}
+use Rattle.types.specs.Thread.{option_value}
 use Rattle.types.specs.Thread.{wait_list}
 use Rattle.codec.proofs.Fit.{flag-fits}
-use Rattle.block.proofs.Enums.{thread-flag-fits}
+use Rattle.block.proofs.Enums.{option-flag-fits}
 use Rattle.block.proofs.Fits.{ThreadFits, Clean, StateFits}
 use Rattle.sound.specs.View.{handled, lists}
 use Rattle.sound.specs.Threads.{ThreadsOk}
@@ -36,7 +36,7 @@ pub record Parts (k : Kernel) : Type 0 where
   pub threads_fit : All ThreadFits k.threads
   pub status : Word k.status_word
   pub thread_count : Word k.thread_count
-  pub current : Word (thread_value k.current_thread)
+  pub current : Word (option_value k.current_thread)
   pub next_tls : Word k.next_tls_slot
   pub next_guest : Word k.next_guest_id
   -- nothing was found
@@ -75,7 +75,7 @@ parts_fit k p =
         (
           p.thread_count,
           (
-            thread-flag-fits k.current_thread,
+            option-flag-fits k.current_thread,
             (
               p.current,
               (

@@ -2,9 +2,10 @@
 use mathlib.Core.Path.{◌≡◌, refl, ap, subst, ◌∙◌}
 use mathlib.Core.Bool.{Bool, true, false}
 use mathlib.Core.List.{List}
-use Prim.Native.Nat.{ℕ}
+use Prim.Native.Nat.{ℕ, min}
+use Rattle.std.proofs.Common.{inl, inr, arith, lt-ltb, le-ltb}
 use lib.Dec.{eqb, leb, ltb}
-use Rattle.laws.specs.Logic.{pick, ◌or◌}
+use Rattle.laws.specs.Logic.{pick, ◌or◌, lt-cases}
 use Rattle.codec.specs.Bytes.{le}
 use Rattle.codec.specs.Layout.{dec_as}
 use Rattle.types.specs.declared.thread.Thread.{Thread}
@@ -55,6 +56,12 @@ module _ (e : List ℕ) (k : Kernel) (entry stack priority processor : ℕ) wher
       let q : dec_block e ≡ with_threads k k.threads store = rw (ei, en') at d in
       let w : h ≡ head_words (with_threads k k.threads store) = eh ∙ encoded-head e en ∙ ap head_words q in
       rw (w, ei, et, en') (unfolded (subst (Holds e) q (encoded-holds e en)))
+
+pub min-least : (a b : ℕ) → min a b ≡ least a b
+min-least a b = elim (lt-cases a b) [
+  | inl h ↦ rw (lt-ltb a b h) (omega arith)
+  | inr h ↦ rw (le-ltb a b h) (omega arith)
+]
 
 -- ---- what is found
 let_go-full : (q : Bool) (s : ObjectStore) (t o : ℕ) → (pick q s (release (unkept s t) o)).full ≡ s.full

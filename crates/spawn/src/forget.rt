@@ -1,5 +1,6 @@
-// What a place that is used again has of the thread before goes: its kept object and its records (`forget_thread` of mod.rs).
-ghost use Rattle.std.specs.Prelude.{◌≡◌, true, ◌+◌, ◌<◌, length};
+// What a place that is used again has of the thread before goes: its kept object and its records (`forget_thread` of
+// mod.rs).
+ghost use Rattle.std.specs.Prelude.{◌≡◌, true};
 ghost use Rattle.laws.specs.Logic.{pick};
 ghost use Rattle.block.specs.Block.{dec_block};
 ghost use Rattle.sound.specs.Question.{sound?};
@@ -7,15 +8,14 @@ ghost use Rattle.object.specs.Waiters.{drop_thread};
 ghost use Rattle.thread.specs.Threads.{with_threads, let_go, forget_thread};
 ghost use Rattle.release.specs.Encoded.{Encoded};
 
-use block::{Head, record, table};
+use block::{Block, Head, record};
 use codec::Four;
 use object::waiters;
 use rows::{read, write};
 use units::ObjectId;
 
 // The kept object.
-fn let_go(block: &mut [u8], t: u32)
-    requires block_len { length block.old ≡ 16384 }
+fn let_go(block: &mut Block, t: u32)
     requires encoded { Encoded block.old }
     ensures block_after { dec_block block.new ≡ with_threads (dec_block block.old) (dec_block block.old).threads (let_go (dec_block block.old).objects t) }
     ensures encoded_2 { Encoded block.new }
@@ -28,39 +28,21 @@ fn let_go(block: &mut [u8], t: u32)
     release::release(block, o);
 }
 
-// The records of the thread, in every arbiter. They are taken out as columns, so that no step of a walk copies the table.
-fn drop_records(block: &mut [u8], t: u32)
-    requires block_len { length block.old ≡ 16384 }
+// The records of the thread, in every arbiter. They are taken out once, and each walk is lent them.
+fn drop_records(block: &mut Block, t: u32)
     requires encoded { Encoded block.old }
     ensures block_after { dec_block block.new ≡ with_threads (dec_block block.old) (dec_block block.old).threads (drop_thread 128 1 t (dec_block block.old).objects) }
     ensures encoded_2 { Encoded block.new }
 {
     let head = block::get_head(block);
-    let p = head.a;
-    let q = head.b;
     let c = head.c;
-    let d = head.d;
-    let ws = table::get_waiters(block, 12416);
-    let mut threads = tally::columns::threads_of(ws);
-    let mut addresses = tally::columns::addresses_of(ws);
-    let mut nexts = tally::columns::nexts_of(ws);
+    let mut ws = record::read_all(block, 12416);
     let mut free = c.1;
-    let mut i: usize = 0;
-    while i < 128 {
+    for i in 0..128 {
         let old = record::slot_at(block, i);
-        let object = old.object;
-        let first = types::object::head_of(object);
+        let first = types::object::head_of(old.object);
         if first != 0 {
-            let u = waiters::unlink(
-                &mut threads,
-                &mut addresses,
-                &mut nexts,
-                false,
-                t,
-                first,
-                64,
-                free,
-            );
+            let u = waiters::unlink(&mut ws, Some(t), first, 64, free);
             write::put_slot(
                 block,
                 ObjectId((i + 1) as u32),
@@ -68,23 +50,18 @@ fn drop_records(block: &mut [u8], t: u32)
             );
             free = u.free;
         }
-        i += 1;
     }
-    let l = waiters::join(threads, addresses, nexts);
-    table::put_waiters(block, 12416, l);
+    record::write_all(block, 12416, &ws);
     write::put_head(
         block,
         Head {
-            a: p,
-            b: q,
             c: Four(c.0, free, c.2, c.3),
-            d: d,
+            ..head
         },
     );
 }
 
-pub fn forget_if(block: &mut [u8], reused: bool, t: u32)
-    requires block_len { length block.old ≡ 16384 }
+pub fn forget_if(block: &mut Block, reused: bool, t: u32)
     requires block_value { sound? block.old ≡ true }
     ensures block_after { dec_block block.new ≡ with_threads (dec_block block.old) (dec_block block.old).threads (pick reused (forget_thread (dec_block block.old).objects t) (dec_block block.old).objects) }
     ensures encoded { Encoded block.new }

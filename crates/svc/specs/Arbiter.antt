@@ -1,22 +1,15 @@
 -- `create_address_arbiter` and `arbitrate_address` of svc.rs.
-use Rattle.std.specs.Prelude.{Bool, true, false, not, List, [], ◌∷◌, ◌++◌, ℕ, suc, eqb, ltb, length, set}
+use Rattle.units.specs.declared.Ticks.{Ticks}
+use Rattle.std.specs.Prelude.{Bool, true, false, not, List, [], ◌∷◌, ◌++◌, ℕ, suc, eqb, ltb, length, set, Option, Some, None}
 use Rattle.laws.specs.Logic.{pick, ◌and◌, ◌or◌}
 use Rattle.units.specs.Ticks.{nanos_to_ticks}
-use Rattle.types.specs.declared.thread.AddressOption.{AddressOption}
-use Rattle.types.specs.declared.thread.AddressOption.TheVariants.{NoAddress, SomeAddress}
-use Rattle.types.specs.declared.thread.ThreadOption.{ThreadOption}
-use Rattle.types.specs.declared.thread.ThreadOption.TheVariants.{NoThread, SomeThread}
 use Rattle.types.specs.declared.thread.ThreadStatus.{ThreadStatus}
 use Rattle.types.specs.declared.thread.ThreadStatus.TheVariants.{Dead, Running, Ready, Sleeping, WaitSync, WaitArbiter, Dormant}
-use Rattle.types.specs.declared.thread.TickOption.{TickOption}
-use Rattle.types.specs.declared.thread.TickOption.TheVariants.{NoTick, SomeTick}
 use Rattle.types.specs.declared.thread.WaitResult.TheVariants.{Signaled}
 use Rattle.types.specs.declared.thread.WaitSyscall.TheVariants.{ArbitrateAddress}
 use Rattle.types.specs.declared.thread.Thread.{Thread}
 use Rattle.types.specs.declared.sync.ArbitrationType.{ArbitrationType}
 use Rattle.types.specs.declared.sync.ArbitrationType.TheVariants.{Signal, WaitIfLessThan, DecrementAndWaitIfLessThan, WaitIfLessThanWithTimeout, DecrementAndWaitIfLessThanWithTimeout}
-use Rattle.types.specs.declared.sync.ArbitrationOption.{ArbitrationOption}
-use Rattle.types.specs.declared.sync.ArbitrationOption.TheVariants.{NoArbitration, SomeArbitration}
 use Rattle.types.specs.declared.object.KObject.TheVariants.{AddressArbiter}
 use Rattle.types.specs.declared.object.Waiter.{Waiter}
 use Rattle.types.specs.declared.object.ObjectStore.{ObjectStore}
@@ -33,7 +26,6 @@ use Rattle.kernel.specs.NextEvent.{contains}
 use Rattle.pass.specs.Signal.{one_less}
 use Rattle.pass.specs.Waits.{wake_tick}
 use Rattle.svc.specs.declared.Registers.{Registers}
-use Rattle.svc.specs.declared.WordOption.TheVariants.{NoWord, SomeWord}
 use Rattle.svc.specs.declared.Served.{Served}
 use Rattle.svc.specs.Call.{done, answers, invalid_handle, invalid_enum_value, with_objects, with_over, pair, negative, resolved, create_object}
 use Rattle.svc.specs.Sync.{biased}
@@ -42,9 +34,9 @@ unfoldable pub create_address_arbiter : Kernel → Served
 create_address_arbiter k = create_object k (AddressArbiter (record { waiters = 0 }))
 
 -- ---- kind 0: threads parked at the address wake, in the order of their records, at most as many as the value; below 0 all
-abbrev pub is_at : AddressOption → ℕ → Bool
-is_at NoAddress a = false
-is_at (SomeAddress b) a = eqb b a
+abbrev pub is_at : Option ℕ → ℕ → Bool
+is_at None a = false
+is_at (Some b) a = eqb b a
 
 abbrev pub waits_arbiter : ThreadStatus → Bool
 waits_arbiter Dead = false
@@ -91,7 +83,7 @@ unlink_woken ts ws a value woken free (x ∷ xs) = link (stays_at ts ws a value 
 
 -- its wait is over, with the index 0
 abbrev pub woken_up : Thread → Thread
-woken_up t = with_status (with_result (clear_wait t) (Signaled 0) t.wait_syscall) Ready
+woken_up t = with_status (with_result (clear_wait t) (Some (Signaled 0)) t.wait_syscall) Ready
 
 -- the threads from number i on, those of the list woken; a thread is in the list once
 unfoldable pub wake_all : List ℕ → ℕ → List Thread → List Thread
@@ -124,11 +116,11 @@ has_timeout WaitIfLessThanWithTimeout = true
 has_timeout DecrementAndWaitIfLessThanWithTimeout = true
 
 -- a time-out of 0 counts, a negative one waits for good
-abbrev pub park_time : ArbitrationType → ℕ → TickOption
-park_time kind nanos = pick (has_timeout kind and not (negative nanos)) (SomeTick (nanos_to_ticks (record { 0 = nanos }))) NoTick
+abbrev pub park_time : ArbitrationType → ℕ → Option Ticks
+park_time kind nanos = pick (has_timeout kind and not (negative nanos)) (Some (nanos_to_ticks (record { 0 = nanos }))) None
 
 -- an older wait's result stays
-abbrev pub parked : Thread → ℕ → TickOption → Thread
+abbrev pub parked : Thread → ℕ → Option Ticks → Thread
 parked t a wake = record {
   status = WaitArbiter;
   priority = t.priority;
@@ -142,19 +134,19 @@ parked t a wake = record {
   wakeup_at = wake;
   running_since = t.running_since;
   waited = t.waited;
-  wait_address = SomeAddress a;
+  wait_address = Some a;
   wait_result = t.wait_result;
-  wait_syscall = ArbitrateAddress;
+  wait_syscall = (Some ArbitrateAddress);
   guest_id = t.guest_id;
 }
 
 -- a record at the end of the arbiter's chain; with an object of another kind it parks without one
-abbrev pub park_as : ThreadOption → Kernel → ℕ → ℕ → TickOption → ℕ → Kernel
-park_as NoThread k o a time tick = k
-park_as (SomeThread c) k o a time tick =
+abbrev pub park_as : Option ℕ → Kernel → ℕ → ℕ → Option Ticks → ℕ → Kernel
+park_as None k o a time tick = k
+park_as (Some c) k o a time tick =
     with_threads k (set k.threads c (parked (thread_at k.threads c) a (wake_tick time tick))) (push k.objects o c a)
 
-abbrev pub park : Kernel → ℕ → ℕ → TickOption → ℕ → Kernel
+abbrev pub park : Kernel → ℕ → ℕ → Option Ticks → ℕ → Kernel
 park k o a time tick = park_as k.current_thread k o a time tick
 
 -- the word is written before the thread parks; question 8 if one less does not fit
@@ -164,9 +156,9 @@ wait_below kind k o a value word nanos tick =
     (record {
       kernel = with_over (park k o a (park_time kind nanos) tick) (k.overflow or (decrements kind and eqb word 2147483648));
       answer = 0;
-      r0 = SomeWord 0;
-      r1 = NoWord;
-      word = pick (decrements kind) (SomeWord (one_less word)) NoWord;
+      r0 = Some 0;
+      r1 = None;
+      word = pick (decrements kind) (Some (one_less word)) None;
     })
     (done k)
 
@@ -185,9 +177,9 @@ arbitrate_for kind k x r word tick =
     (arbitrate_as kind (with_objects k x.store) x.object.0 r.r1 r.r3 word (pair r.r4 r.r5) tick)
 
 -- an unknown kind comes before everything else, and makes no object
-abbrev pub arbitrate_by : ArbitrationOption → Kernel → Registers → ℕ → ℕ → Served
-arbitrate_by NoArbitration k r word tick = answers invalid_enum_value k
-arbitrate_by (SomeArbitration kind) k r word tick = arbitrate_for kind k (resolved k r.r0) r word tick
+abbrev pub arbitrate_by : Option ArbitrationType → Kernel → Registers → ℕ → ℕ → Served
+arbitrate_by None k r word tick = answers invalid_enum_value k
+arbitrate_by (Some kind) k r word tick = arbitrate_for kind k (resolved k r.r0) r word tick
 
 unfoldable pub arbitrate_address : Kernel → Registers → ℕ → ℕ → Served
 arbitrate_address k r word tick = arbitrate_by (arbitration_from_raw r.r2) k r word tick

@@ -1,5 +1,5 @@
 -- What the guest calls of svc.rs have in common.
-use Rattle.std.specs.Prelude.{Bool, ℕ, ◌+◌, ◌*◌, ltb}
+use Rattle.std.specs.Prelude.{Bool, ℕ, ◌+◌, ◌*◌, ltb, Some, None}
 use Rattle.types.specs.declared.object.KObject.{KObject}
 use Rattle.types.specs.declared.object.HandleTable.{HandleTable}
 use Rattle.types.specs.declared.object.ObjectStore.{ObjectStore}
@@ -9,25 +9,24 @@ use Rattle.object.specs.Store.{insert}
 use Rattle.object.specs.Handles.{give}
 use Rattle.object.specs.Kept.{resolve}
 use Rattle.thread.specs.Threads.{with_threads}
-use Rattle.svc.specs.declared.WordOption.TheVariants.{NoWord, SomeWord}
 use Rattle.svc.specs.declared.Served.{Served}
 
 -- ---- what a call leaves
 -- done: r0 gets 0
 abbrev pub done : Kernel → Served
-done k = record { kernel = k; answer = 0; r0 = SomeWord 0; r1 = NoWord; word = NoWord }
+done k = record { kernel = k; answer = 0; r0 = Some 0; r1 = None; word = None }
 
 -- done, and r1 gets v
 abbrev pub gives : Kernel → ℕ → Served
-gives k v = record { kernel = k; answer = 0; r0 = SomeWord 0; r1 = SomeWord v; word = NoWord }
+gives k v = record { kernel = k; answer = 0; r0 = Some 0; r1 = Some v; word = None }
 
 -- the answer n, which r0 gets too
 abbrev pub answers : ℕ → Kernel → Served
-answers n k = record { kernel = k; answer = n; r0 = SomeWord n; r1 = NoWord; word = NoWord }
+answers n k = record { kernel = k; answer = n; r0 = Some n; r1 = None; word = None }
 
 -- no register is written
 abbrev pub silent : Kernel → Served
-silent k = record { kernel = k; answer = 0; r0 = NoWord; r1 = NoWord; word = NoWord }
+silent k = record { kernel = k; answer = 0; r0 = None; r1 = None; word = None }
 
 -- the answers: a handle unknown or of the wrong kind, a time-out of 0 not satisfied, an unknown kind of arbitration
 abbrev pub invalid_handle : ℕ

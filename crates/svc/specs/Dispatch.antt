@@ -1,8 +1,6 @@
 -- `dispatch` of svc.rs: the calls by number, and the questions that are a call's own.
-use Rattle.std.specs.Prelude.{Bool, true, false, List, ℕ, ◌+◌, ◌*◌, ◌%◌, eqb, leb, ltb, get_or}
+use Rattle.std.specs.Prelude.{Bool, true, false, List, ℕ, ◌+◌, ◌*◌, ◌%◌, eqb, leb, ltb, get_or, Option, Some, None}
 use Rattle.laws.specs.Logic.{pick, ◌and◌}
-use Rattle.types.specs.declared.thread.ThreadOption.{ThreadOption}
-use Rattle.types.specs.declared.thread.ThreadOption.TheVariants.{NoThread, SomeThread}
 use Rattle.types.specs.declared.thread.Thread.{Thread}
 use Rattle.types.specs.declared.kernel.Kernel.{Kernel}
 use Rattle.types.specs.Thread.{wait_list}
@@ -24,14 +22,14 @@ abbrev pub words_read : ℕ → Registers → ℕ
 words_read number r = pick (eqb number 0x25) r.r2 (pick (eqb number 0x22 and (leb 1 r.r2 and leb r.r2 4)) 1 0)
 
 -- question 4: there is a current thread, Running
-abbrev pub runs_as : ThreadOption → List Thread → Bool
-runs_as NoThread ts = false
-runs_as (SomeThread c) ts = is_running (thread_at ts c).status
+abbrev pub runs_as : Option ℕ → List Thread → Bool
+runs_as None ts = false
+runs_as (Some c) ts = is_running (thread_at ts c).status
 
 unfoldable pub runs? : Kernel → Bool
 runs? k = runs_as k.current_thread k.threads
 
--- question 5: at most 8 handles
+-- question 5: at most 12 handles
 unfoldable pub too_many? : ℕ → Registers → Bool
 too_many? number r = eqb number 0x25 and ltb wait_list r.r2
 

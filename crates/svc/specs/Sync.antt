@@ -1,8 +1,6 @@
 -- The calls on mutexes, semaphores and events of svc.rs.
-use Rattle.std.specs.Prelude.{Bool, false, not, ℕ, ◌+◌, ◌-◌, ◌%◌, eqb, leb, ltb}
+use Rattle.std.specs.Prelude.{Bool, false, not, ℕ, ◌+◌, ◌-◌, ◌%◌, eqb, leb, ltb, Option, None}
 use Rattle.laws.specs.Logic.{pick, ◌or◌}
-use Rattle.types.specs.declared.thread.ThreadOption.{ThreadOption}
-use Rattle.types.specs.declared.thread.ThreadOption.TheVariants.{NoThread}
 use Rattle.types.specs.declared.sync.Mutex as mu
 use Rattle.types.specs.declared.sync.Semaphore as se
 use Rattle.types.specs.declared.object.KObject.{KObject}
@@ -18,15 +16,15 @@ use Rattle.svc.specs.declared.Served.{Served}
 use Rattle.svc.specs.Call.{done, gives, answers, invalid_handle, with_objects, with_over, resolved, create_object}
 
 -- ---- `create_mutex`: r1 whether the current thread has it at once
-abbrev pub new_mutex : ThreadOption → Bool → mu.Mutex
-new_mutex current locked = record { owner = pick locked current NoThread; lock_count = pick locked 1 0 }
+abbrev pub new_mutex : Option ℕ → Bool → mu.Mutex
+new_mutex current locked = record { owner = pick locked current None; lock_count = pick locked 1 0 }
 
 unfoldable pub create_mutex : Kernel → Registers → Served
 create_mutex k r = create_object k (Mutex (new_mutex k.current_thread (not (eqb r.r1 0))))
 
 -- ---- `release_mutex`: r0 handle; any thread may let go of it, and with the last lock it has no owner
 abbrev pub unlocked : mu.Mutex → mu.Mutex
-unlocked m = record { owner = pick (eqb (m.lock_count - 1) 0) NoThread m.owner; lock_count = m.lock_count - 1 }
+unlocked m = record { owner = pick (eqb (m.lock_count - 1) 0) None m.owner; lock_count = m.lock_count - 1 }
 
 -- an unknown handle reads as object 0, which is no mutex
 abbrev pub release_mutex_as : KObject → Kernel → ℕ → Served

@@ -1,10 +1,8 @@
 -- The call table: for each call number the registers that it reads and those that it may write, bit i for register i.
-use Rattle.std.specs.Prelude.{Bool, false, List, [], ◌∷◌, ℕ, ◌/◌, ◌%◌, eqb}
+use Rattle.std.specs.Prelude.{Bool, false, List, [], ◌∷◌, ℕ, ◌/◌, ◌%◌, eqb, Option, Some, None}
 use Rattle.laws.specs.Logic.{pick, ◌or◌}
 use Rattle.svc.specs.declared.CallRow.{CallRow}
 use Rattle.svc.specs.declared.Registers.{Registers}
-use Rattle.svc.specs.declared.WordOption.{WordOption}
-use Rattle.svc.specs.declared.WordOption.TheVariants.{NoWord, SomeWord}
 
 abbrev pub row : ℕ → ℕ → ℕ → CallRow
 row n r w = record { number = n; reads = r; writes = w }
@@ -91,9 +89,9 @@ read_by mask r = record {
 }
 
 -- what a register holds afterwards: a register outside the mask is as before
-abbrev pub written_as : Bool → WordOption → ℕ → ℕ
-written_as b NoWord old = old
-written_as b (SomeWord v) old = pick b v old
+abbrev pub written_as : Bool → Option ℕ → ℕ → ℕ
+written_as b None old = old
+written_as b (Some v) old = pick b v old
 
-abbrev pub written : ℕ → ℕ → WordOption → ℕ → ℕ
+abbrev pub written : ℕ → ℕ → Option ℕ → ℕ → ℕ
 written mask p w old = written_as (bit mask p) w old

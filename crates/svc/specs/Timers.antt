@@ -1,8 +1,7 @@
 -- The calls on timers of svc.rs. Each of the three that name a timer first fires what came due.
-use Rattle.std.specs.Prelude.{false, ℕ}
+use Rattle.std.specs.Prelude.{false, ℕ, Some, None}
 use Rattle.laws.specs.Logic.{pick}
 use Rattle.units.specs.Ticks.{nanos_to_ticks}
-use Rattle.types.specs.declared.thread.TickOption.TheVariants.{NoTick, SomeTick}
 use Rattle.types.specs.declared.sync.Timer as ti
 use Rattle.types.specs.declared.object.KObject.{KObject}
 use Rattle.types.specs.declared.object.KObject.TheVariants.{Free, Thread, Event, Mutex, Semaphore, Timer, AddressArbiter, Process, ResourceLimit}
@@ -18,7 +17,7 @@ use Rattle.svc.specs.Call.{done, answers, invalid_handle, with_objects, pair, ne
 
 -- ---- `create_timer`: r1 reset type; it is stopped
 unfoldable pub create_timer : Kernel → Registers → Served
-create_timer k r = create_object k (Timer (record { reset_type = reset_from_raw r.r1; signaled = false; fire_at = NoTick; interval = record { 0 = 0 } }))
+create_timer k r = create_object k (Timer (record { reset_type = reset_from_raw r.r1; signaled = false; fire_at = None; interval = record { 0 = 0 } }))
 
 -- timers that came due by the tick have fired
 abbrev pub caught_up : Kernel → ℕ → Kernel
@@ -32,7 +31,7 @@ abbrev pub set_to : ti.Timer → ℕ → ℕ → ℕ → ti.Timer
 set_to t initial interval tick = record {
   reset_type = t.reset_type;
   signaled = false;
-  fire_at = SomeTick (record { 0 = saturating_add tick (nanos_to_ticks (record { 0 = initial })).0 });
+  fire_at = Some (record { 0 = saturating_add tick (nanos_to_ticks (record { 0 = initial })).0 });
   interval = nanos_to_ticks (record { 0 = interval });
 }
 
@@ -60,7 +59,7 @@ cancelled (Thread t) = Thread t
 cancelled (Event e) = Event e
 cancelled (Mutex m) = Mutex m
 cancelled (Semaphore s) = Semaphore s
-cancelled (Timer t) = Timer (record { reset_type = t.reset_type; signaled = t.signaled; fire_at = NoTick; interval = t.interval })
+cancelled (Timer t) = Timer (record { reset_type = t.reset_type; signaled = t.signaled; fire_at = None; interval = t.interval })
 cancelled (AddressArbiter a) = AddressArbiter a
 cancelled Process = Process
 cancelled ResourceLimit = ResourceLimit

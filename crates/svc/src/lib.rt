@@ -24,19 +24,12 @@ pub struct CallRow {
     pub writes: u32,
 }
 
-// A word that is written, or none.
-#[derive(Clone, Copy)]
-pub enum WordOption {
-    NoWord,
-    SomeWord(u32),
-}
-
 // What a call leaves: the state, the answer, the registers it writes, and the word it writes at its address.
 #[derive(Clone, Copy)]
 pub struct Served {
     pub kernel: Kernel,
     pub answer: u32,
-    pub r0: WordOption,
-    pub r1: WordOption,
-    pub word: WordOption,
+    pub r0: Option<u32>,
+    pub r1: Option<u32>,
+    pub word: Option<u32>,
 }

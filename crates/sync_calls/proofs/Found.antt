@@ -1,5 +1,6 @@
 -- What the calls find from the state k on, in which the object of their handle is there. Assumes nothing.
-use mathlib.Core.Path.{◌≡◌, refl, ap, sym, ◌∙◌}
+use Rattle.std.specs.Prelude.{Some, None, if◌then◌else◌}
+use mathlib.Core.Path.{◌≡◌, refl, sym, ◌∙◌}
 use mathlib.Core.Bool.{Bool, true, false}
 use mathlib.Core.List.{List}
 use Prim.Native.Nat.{ℕ}
@@ -8,24 +9,42 @@ use Rattle.laws.specs.Logic.{◌or◌, or-false}
 use Rattle.types.specs.declared.object.KObject.{KObject}
 use Rattle.types.specs.declared.object.KObject.TheVariants.{Free, Thread, Event, Mutex, Semaphore, Timer, AddressArbiter, Process, ResourceLimit}
 use Rattle.types.specs.declared.object.ObjectStore.{ObjectStore}
+use Rattle.types.specs.declared.sync.Mutex as mu
 use Rattle.types.specs.declared.sync.Semaphore as se
 use Rattle.types.specs.declared.kernel.Kernel.{Kernel}
 use Rattle.block.specs.Block.{dec_block, enc_block}
-use Rattle.sound.specs.Question.{sound?}
 use Rattle.sound.specs.View.{object_at}
 use Rattle.object.specs.Slots.{content}
 use Rattle.pass.specs.Signal as pass
 use Rattle.svc.specs.declared.Registers.{Registers}
-use Rattle.svc.specs.Call.{with_objects, with_over, resolved}
+use Rattle.svc.specs.Call.{with_objects, with_over, resolved, answers}
 use Rattle.svc.specs.Sync.{release_mutex_as, release_mutex, sum_over, released_semaphore, release_semaphore_as, release_semaphore, signal_event, clear_event}
 use Rattle.lent.specs.Operations.{finding, out_of_handles?}
-use Rattle.outcome.specs.declared.Outcome.{Outcome}
-use Rattle.outcome.specs.Outcome.{outcome, left, refused, left-0}
 use Rattle.outcome.specs.Findings.{found_of, none_found, parts-finding, over-finding, pick-finding}
-use Rattle.objects.specs.declared.open.Opened.{Opened}
-use Rattle.objects.specs.Open.{Opens}
-use Rattle.objects.proofs.Calls.{refused-call}
 use Rattle.objects.proofs.Changed.{slots-finding, content-finding}
+
+-- another kind of object, and none
+pub not_mutex : (x : KObject) (k : Kernel) (o : ℕ) → ((m : mu.Mutex) → x ≡ Mutex m → ⊥) → release_mutex_as x k o ≡ answers 16 k
+not_mutex (Free n) k o z = refl
+not_mutex (Thread t) k o z = refl
+not_mutex (Event e) k o z = refl
+not_mutex (Mutex m) k o z = absurd (z m refl)
+not_mutex (Semaphore s) k o z = refl
+not_mutex (Timer t) k o z = refl
+not_mutex (AddressArbiter a) k o z = refl
+not_mutex Process k o z = refl
+not_mutex ResourceLimit k o z = refl
+
+pub not_semaphore : (x : KObject) (k : Kernel) (o n : ℕ) → ((s : se.Semaphore) → x ≡ Semaphore s → ⊥) → release_semaphore_as x k o n ≡ answers 16 k
+not_semaphore (Free m) k o n z = refl
+not_semaphore (Thread t) k o n z = refl
+not_semaphore (Event e) k o n z = refl
+not_semaphore (Mutex m) k o n z = refl
+not_semaphore (Semaphore s) k o n z = absurd (z s refl)
+not_semaphore (Timer t) k o n z = refl
+not_semaphore (AddressArbiter a) k o n z = refl
+not_semaphore Process k o n z = refl
+not_semaphore ResourceLimit k o n z = refl
 
 pub mutex_finding : (x : KObject) (k : Kernel) (o : ℕ) → finding (release_mutex_as x k o).kernel ≡ finding k
 mutex_finding (Free n) k o = refl
@@ -79,17 +98,14 @@ module _ (k : Kernel) (z : finding k ≡ 0) (o : ℕ) (s : se.Semaphore) (n : �
   unfolding finding content out_of_handles? ◌or◌
   semaphore_fits e = rw (e, none_over, nothing.0, no-sum)
 
--- without a semaphore nothing is found, and a semaphore was there before
-pub left-same : (y : KObject) (k : Kernel) (o n : ℕ) (e b : List ℕ) → finding k ≡ 0 → ((s : se.Semaphore) → y ≡ Semaphore s → e ≡ b) → left (release_semaphore_as y k o n) e ≡ left (release_semaphore_as y k o n) b
-left-same (Free m) k o n e b z u = left-0 _ e z ∙ sym (left-0 _ b z)
-left-same (Thread t) k o n e b z u = left-0 _ e z ∙ sym (left-0 _ b z)
-left-same (Event v) k o n e b z u = left-0 _ e z ∙ sym (left-0 _ b z)
-left-same (Mutex m) k o n e b z u = left-0 _ e z ∙ sym (left-0 _ b z)
-left-same (Semaphore s) k o n e b z u = ap (left (release_semaphore_as (Semaphore s) k o n)) (u s refl)
-left-same (Timer t) k o n e b z u = left-0 _ e z ∙ sym (left-0 _ b z)
-left-same (AddressArbiter a) k o n e b z u = left-0 _ e z ∙ sym (left-0 _ b z)
-left-same Process k o n e b z u = left-0 _ e z ∙ sym (left-0 _ b z)
-left-same ResourceLimit k o n e b z u = left-0 _ e z ∙ sym (left-0 _ b z)
+-- a sum that does not fit leaves no semaphore
+pub fits-of : {A : Type 0} (t : Bool) (x y : A) → (if t then None else Some x) ≡ Some y → (t ≡ false) × (y ≡ x)
+fits-of true x y e = absurd cc
+fits-of false x y e = (refl, cc)
+
+pub over-of : {A : Type 0} (t : Bool) (x : A) → ((y : A) → (if t then None else Some x) ≡ Some y → ⊥) → t ≡ true
+over-of true x z = refl
+over-of false x z = absurd (z x refl)
 
 -- what was found of a sum is in no block
 pub same_block : (k : Kernel) (s : ObjectStore) (v : Bool) → enc_block (with_objects k s) ≡ enc_block (with_over (with_objects k s) v)
@@ -122,9 +138,7 @@ first (AddressArbiter a) b s o n z = refl
 first Process b s o n z = refl
 first ResourceLimit b s o n z = refl
 
-pub refused_semaphore : (b : List ℕ) (s : sound? b ≡ true) (r : Registers) (e : List ℕ) (o : Opened) → Opens (dec_block b) (resolved (dec_block b) r.r1) b e o → (o.found ≡ 0 → ⊥)
-    → (a : Outcome) → a ≡ refused o.found → (a ≡ outcome (release_semaphore (dec_block b) r)) × (e ≡ left (release_semaphore (dec_block b) r) b)
+pub release_semaphore-finding : (b : List ℕ) (r : Registers) → (finding (with_objects (dec_block b) (resolved (dec_block b) r.r1).store) ≡ 0 → ⊥)
+    → finding (release_semaphore (dec_block b) r).kernel ≡ finding (with_objects (dec_block b) (resolved (dec_block b) r.r1).store)
 unfolding release_semaphore
-refused_semaphore b s r e o p z a q =
-    let x = resolved (dec_block b) r.r1 in
-    refused-call b r.r1 e o p (release_semaphore (dec_block b) r) (first (object_at x.store x.object.0) b x.store x.object.0 r.r2 (λ w. z (p.found ∙ w))) z a q
+release_semaphore-finding b r = let x = resolved (dec_block b) r.r1 in first (object_at x.store x.object.0) b x.store x.object.0 r.r2

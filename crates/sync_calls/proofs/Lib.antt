@@ -1,3 +1,4 @@
 -- The laws that the proofs of `sync_calls` cite.
-pub mod Locks
+pub mod Words
 pub mod Found
+pub mod Opened

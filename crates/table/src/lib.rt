@@ -1,11 +1,11 @@
-// The call table: for each call number the registers that it reads and those that it may write. Beside it the questions that are a
-// call's own, and the registers by mask.
+// The call table: for each call number the registers that it reads and those that it may write. Beside it the questions
+// that are a call's own, and the registers by mask.
 #![tactic(auto)]
 
 pub mod questions;
 pub mod registers;
 
-ghost use Rattle.std.specs.Prelude.{◌≡◌, ◌+◌, ◌-◌, ◌<◌};
+ghost use Rattle.std.specs.Prelude.{◌≡◌};
 ghost use Rattle.svc.specs.Table as def;
 
 use svc::CallRow;
@@ -140,19 +140,17 @@ const CALLS: [CallRow; 21] = [
 ];
 
 // The row of a call number; a number that is not in the table reads and writes nothing.
+#[tactic(auto, using(crate::proofs::Rows::row_hit, crate::proofs::Rows::row_miss, crate::proofs::Rows::row_end), unfolding(svc::specs::Table::table, svc::specs::Table::row_of))]
 pub fn row_of(number: u32) -> CallRow
     ensures { result ≡ def.row_of number }
 {
-    let mut i: usize = 0;
-    while i < 21 {
-        let row = CALLS[i];
+    for row in &CALLS {
         if row.number == number {
-            return row;
+            return *row;
         }
-        i += 1;
     }
     CallRow {
-        number: number,
+        number,
         reads: 0,
         writes: 0,
     }
@@ -162,13 +160,5 @@ pub fn row_of(number: u32) -> CallRow
 pub fn known(number: u32) -> bool
     ensures { result ≡ def.known? number }
 {
-    let mut i: usize = 0;
-    while i < 21 {
-        let row = CALLS[i];
-        if row.number == number {
-            return true;
-        }
-        i += 1;
-    }
-    false
+    CALLS.iter().any(|row| row.number == number)
 }

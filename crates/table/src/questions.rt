@@ -1,88 +1,66 @@
 // Questions 3 to 6, which are a call's own.
-ghost use Rattle.std.specs.Prelude.{◌≡◌, length};
+ghost use Rattle.std.specs.Prelude.{◌≡◌};
+ghost use Rattle.types.specs.Refusal.{unless_found};
 ghost use Rattle.block.specs.Block.{dec_block};
 ghost use Rattle.sound.specs.View.{thread_at};
 ghost use Rattle.pass.specs.Pick.{is_running};
 ghost use Rattle.svc.specs.Dispatch as def;
 
+use block::Block;
 use rows::read;
 use svc::Registers;
-use types::thread::{ThreadOption, WAIT_COUNT};
+use types::refusal::Refusal;
+use types::thread::WAIT_COUNT;
 
 // How many words a call reads at r1.
+#[tactic(auto, using(laws::specs::Logic::and_yes, laws::specs::Logic::and_no))]
 pub fn words_read(number: u32, r: Registers) -> u32
     ensures { result ≡ def.words_read number r }
 {
     if number == 0x25 {
         return r.r2;
     }
-    if number != 0x22 {
-        return 0;
+    if number == 0x22 && (1 <= r.r2 && r.r2 <= 4) {
+        1
+    } else {
+        0
     }
-    if r.r2 < 1 {
-        return 0;
-    }
-    if 4 < r.r2 {
-        return 0;
-    }
-    1
 }
 
-fn is_running_at(block: &[u8], c: u32) -> bool
-    requires { length block.now ≡ 16384 }
+fn is_running_at(block: &Block, c: u32) -> bool
     ensures { result ≡ is_running (thread_at (dec_block block.now).threads c).status }
 {
     if 32 <= c {
         return false;
     }
-    let t = read::thread_at(block, c);
-    let s = t.status;
-    pick::is_running(s)
+    pick::is_running(read::thread_at(block, c).status)
 }
 
-fn runs_as(current: ThreadOption, block: &[u8]) -> bool
-    requires { length block.now ≡ 16384 }
+fn runs_as(current: Option<u32>, block: &Block) -> bool
     ensures { result ≡ def.runs_as current (dec_block block.now).threads }
 {
-    match current {
-        ThreadOption::NoThread => false,
-        ThreadOption::SomeThread(c) => is_running_at(block, c),
-    }
+    current.is_some_and(|c| is_running_at(block, c))
 }
 
 // Question 4: there is a current thread, Running.
-pub fn runs(block: &[u8]) -> bool
-    requires { length block.now ≡ 16384 }
+pub fn runs(block: &Block) -> bool
     ensures { result ≡ def.runs? (dec_block block.now) }
 {
-    let current = read::current(block);
-    runs_as(current, block)
+    runs_as(read::current(block), block)
 }
 
 // Question 5: no more handles than a thread's list has places.
 fn too_many(number: u32, r: Registers) -> bool
     ensures { result ≡ def.too_many? number r }
 {
-    if number != 0x25 {
-        return false;
-    }
-    WAIT_COUNT < r.r2
+    number == 0x25 && WAIT_COUNT < r.r2
 }
 
+#[tactic(auto, using(laws::specs::Logic::and_yes, laws::specs::Logic::and_no))]
 fn in_window(base: u32, len: u64, a: u32, n: u32) -> bool
     ensures { result ≡ def.in_window base len a n }
 {
-    if a % 4 != 0 {
-        return false;
-    }
-    if a < base {
-        return false;
-    }
-    let end = a as u64 + 4 * n as u64;
-    if len < end - base as u64 {
-        return false;
-    }
-    true
+    a % 4 == 0 && (base <= a && (a - base) as u64 + 4 * n as u64 <= len)
 }
 
 // Question 6: the words that the call reads are in the window.
@@ -90,31 +68,25 @@ fn outside(base: u32, len: u64, number: u32, r: Registers) -> bool
     ensures { result ≡ def.outside? base len number r }
 {
     let n = words_read(number, r);
-    if n == 0 {
-        return false;
-    }
-    if in_window(base, len, r.r1, n) {
-        return false;
-    }
-    true
+    n != 0 && !in_window(base, len, r.r1, n)
 }
 
-// The first of questions 3 to 6 that refuses, or 0.
-pub fn refusal(base: u32, len: u64, number: u32, r: Registers, block: &[u8]) -> u32
-    requires { length block.now ≡ 16384 }
-    ensures { result ≡ def.refusal base len number r (dec_block block.now) }
+// Questions 3 to 6, the first that says no first.
+#[tactic(auto, unfolding(svc::specs::Dispatch::refusal))]
+pub fn allowed(base: u32, len: u64, number: u32, r: Registers, block: &Block) -> Result<(), Refusal>
+    ensures { result ≡ unless_found (def.refusal base len number r (dec_block block.now)) tt }
 {
     if !crate::known(number) {
-        return 3;
+        return Err(Refusal::UnknownCall);
     }
     if !runs(block) {
-        return 4;
+        return Err(Refusal::NoThread);
     }
     if too_many(number, r) {
-        return 5;
+        return Err(Refusal::TooManyHandles);
     }
     if outside(base, len, number, r) {
-        return 6;
+        return Err(Refusal::OutsideWindow);
     }
-    0
+    Ok(())
 }

@@ -1,9 +1,8 @@
 // The registers as a call may read and write them.
 ghost use Rattle.std.specs.Prelude.{◌≡◌, ◌<◌};
-ghost use Rattle.laws.specs.Logic.{pick};
 ghost use Rattle.svc.specs.Table as def;
 
-use svc::{Registers, WordOption};
+use svc::Registers;
 
 // Bit i of a mask, where p is 2^i.
 fn bit(mask: u32, p: u32) -> bool
@@ -17,52 +16,34 @@ fn masked(mask: u32, p: u32, v: u32) -> u32
     requires { 0 < p }
     ensures { result ≡ def.masked mask p v }
 {
-    if bit(mask, p) {
-        return v;
-    }
-    0
+    if bit(mask, p) { v } else { 0 }
 }
 
 // Registers that the call does not read are 0.
 pub fn read_by(mask: u32, r: Registers) -> Registers
     ensures { result ≡ def.read_by mask r }
 {
-    let r0 = masked(mask, 1, r.r0);
-    let r1 = masked(mask, 2, r.r1);
-    let r2 = masked(mask, 4, r.r2);
-    let r3 = masked(mask, 8, r.r3);
-    let r4 = masked(mask, 16, r.r4);
-    let r5 = masked(mask, 32, r.r5);
     Registers {
-        r0: r0,
-        r1: r1,
-        r2: r2,
-        r3: r3,
-        r4: r4,
-        r5: r5,
+        r0: masked(mask, 1, r.r0),
+        r1: masked(mask, 2, r.r1),
+        r2: masked(mask, 4, r.r2),
+        r3: masked(mask, 8, r.r3),
+        r4: masked(mask, 16, r.r4),
+        r5: masked(mask, 32, r.r5),
     }
 }
 
-fn written_as(b: bool, w: WordOption, old: u32) -> u32
+fn written_as(b: bool, w: Option<u32>, old: u32) -> u32
     ensures { result ≡ def.written_as b w old }
 {
     match w {
-        WordOption::NoWord => old,
-        WordOption::SomeWord(v) => either(b, v, old),
+        Some(v) if b => v,
+        _ => old,
     }
-}
-
-fn either(b: bool, v: u32, old: u32) -> u32
-    ensures { result ≡ pick b v old }
-{
-    if b {
-        return v;
-    }
-    old
 }
 
 // What a register holds afterwards: one outside the mask is as before.
-pub fn written(mask: u32, p: u32, w: WordOption, old: u32) -> u32
+pub fn written(mask: u32, p: u32, w: Option<u32>, old: u32) -> u32
     requires { 0 < p }
     ensures { result ≡ def.written mask p w old }
 {

@@ -3,7 +3,11 @@ use mathlib.Core.Path.{◌≡◌, refl, sym, ap, subst, ◌∙◌}
 use mathlib.Core.Bool.{Bool, true, false}
 use mathlib.Core.List.{List, [], ◌∷◌}
 use Prim.Native.Nat.{ℕ}
-use Rattle.laws.specs.Logic.{◌or◌, or-end, or-false}
+use Rattle.laws.specs.Logic.{pick, ◌or◌, or-end, or-false}
+use Rattle.std.specs.Prelude.{Ok, Err}
+use Rattle.types.specs.Refusal.{unless_found}
+use Rattle.types.specs.declared.refusal.Refusal.{Refusal}
+use Rattle.types.specs.declared.refusal.Refusal.TheVariants.{Overflow}
 use Rattle.types.specs.declared.object.Slot.{Slot}
 use Rattle.types.specs.declared.object.ObjectStore.{ObjectStore}
 use Rattle.types.specs.declared.kernel.Kernel.{Kernel}
@@ -53,6 +57,15 @@ module _ (b : List ℕ) (s : sound? b ≡ true) (o w : ℕ) (live : Live (dec_bl
 first_fits : (s : ObjectStore) (o : ℕ) (os : List ℕ) (w : ℕ) → (acquires s (o ∷ os) w).overflow ≡ false → acquire_over (object_at s o) ≡ false
 unfolding acquires acquire
 first_fits s o os w e = (or-false s.overflow (acquire_over (object_at s o)) (acquires-sticks os (acquire s o w) w e)).1
+
+-- a count is refused or not
+pub fits-as : {A : Type 0} (v : Bool) (x y : A) → unless_found (pick v 8 0) x ≡ Ok y → v ≡ false
+fits-as true x y e = cc
+fits-as false x y e = refl
+
+pub refused-as : {A : Type 0} (v : Bool) (x : A) (r : Refusal) → unless_found (pick v 8 0) x ≡ Err r → (v ≡ true) × (r ≡ Overflow)
+refused-as true x r e = (refl, cc)
+refused-as false x r e = cc
 
 pub over-is : (s : ObjectStore) (o : ℕ) (x : Slot) → x ≡ slot_at s.slots o → (r : Bool) → r ≡ false or acquire_over x.object → r ≡ acquire_over (object_at s o)
 unfolding ◌or◌

@@ -1,6 +1,7 @@
 -- Which slot of a store a number names, as code looks it up. Assumes nothing.
-use Rattle.std.specs.Prelude.{◌≡◌, Bool, true, false, ℕ, ◌-◌, ◌<◌, eqb, ltb}
-use Rattle.std.proofs.Common.{sym, ◌∙◌, inl, inr, arith, ltb-true, lt-ltb, le-ltb, ne_eqb}
+use Rattle.std.specs.Prelude.{◌≡◌, refl, zero, suc, Bool, true, false, ℕ, ◌-◌, ◌<◌, eqb, leb, ltb}
+use Rattle.std.proofs.Common.{sym, ◌∙◌, inl, inr, arith, ltb-true, lt-ltb, le-ltb, le-leb, ne_eqb}
+use Rattle.std.proofs.lemmas.Bool.{lt-leb}
 use Rattle.laws.specs.Logic.{pick, ◌and◌, and-true, true-and, false-true, lt-cases}
 
 -- a number that some slot has
@@ -27,3 +28,17 @@ unfolding slot_index
 index-slot k e =
     let h = slot-some k e in
     rw (ne_eqb k 0 (λ z. omega (arith, h)), le-ltb 128 k (omega (arith, h)))
+
+-- any other number has the first place
+pub index-none : (k : ℕ) → is_slot k ≡ false → slot_index k ≡ 0
+unfolding slot_index
+index-none zero e = refl
+index-none (suc k) e = rw (ne_eqb (suc k) 0 (λ z. omega arith), lt-ltb 128 (suc k) (slot-past (suc k) e (omega arith)))
+
+-- as it is said of an object number
+pub slot-leb : (k : ℕ) → is_slot k ≡ ltb 0 k and leb k 128
+slot-leb k =
+    elim (lt-cases k 129) [
+      | inl h ↦ rw (lt-ltb k 129 h, le-leb k 128 (omega arith))
+      | inr h ↦ rw (le-ltb k 129 h, lt-leb k 128 (omega arith))
+    ]

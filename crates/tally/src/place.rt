@@ -1,5 +1,5 @@
 // Which slot of a store a number names.
-ghost use Rattle.std.specs.Prelude.{◌≡◌, ◌-◌, ◌<◌};
+ghost use Rattle.std.specs.Prelude.{◌≡◌, ◌<◌};
 ghost use Rattle.tally.specs.Place.{is_slot, slot_index};
 
 use units::ObjectId;
@@ -8,11 +8,7 @@ use units::ObjectId;
 pub fn is_slot(o: ObjectId) -> bool
     ensures { result ≡ is_slot o.0 }
 {
-    let n = o.0;
-    if n == 0 {
-        return false;
-    }
-    n < 129
+    (1..=128).contains(&o.0)
 }
 
 // An index to look at for the object o: its slot, or the first one if it has none.
@@ -20,12 +16,5 @@ pub fn slot_index(o: ObjectId) -> usize
     ensures value { result ≡ slot_index o.0 }
     ensures upper_bound { result < 128 }
 {
-    let n = o.0;
-    if n == 0 {
-        return 0;
-    }
-    if 128 < n {
-        return 0;
-    }
-    (n - 1) as usize
+    if is_slot(o) { (o.0 - 1) as usize } else { 0 }
 }

@@ -1,11 +1,13 @@
 -- One turn of each loop. Assumes nothing.
-use mathlib.Core.Path.{◌≡◌, refl, ap}
+use mathlib.Core.Path.{◌≡◌, refl, ap, sym, ◌∙◌}
+use mathlib.Core.Logic.{◌≢◌}
 use mathlib.Core.Bool.{Bool, true, false}
 use mathlib.Core.List.{List, [], ◌∷◌}
 use Prim.Native.Nat.{ℕ, zero, suc, ◌+◌, ◌-◌, ◌≤◌, ◌<◌}
 use native.Mathlib.Omega.{arith}
 use lib.Dec.{eqb}
 use lib.ListN.{get_or, set}
+use borrow.Author.Tests.{eq-eqb, ne_eqb}
 use Rattle.laws.specs.Logic.{pick}
 use Rattle.laws.specs.Count.{count}
 use Rattle.types.specs.declared.kernel.Kernel.{Kernel}
@@ -13,13 +15,20 @@ use Rattle.sound.specs.Tls.{held}
 use Rattle.thread.specs.Threads.{least, free_from, tls_slot}
 use Rattle.thread.specs.Marks.{least-le, free_marked}
 
-pub free_step : (m : List ℕ) (n i : ℕ) → i < n → free_marked m (n - i) i ≡ pick (eqb (get_or m i 0) 0) i (free_marked m (n - (i + 1)) (i + 1))
-unfolding free_marked
-free_step m n i h = let e : n - i ≡ suc (n - (i + 1)) = omega arith in rw e
+module _ (m : List ℕ) (n i : ℕ) where
+  step : i < n → free_marked m (n - i) i ≡ pick (eqb (get_or m i 0) 0) i (free_marked m (n - (i + 1)) (i + 1))
+  unfolding free_marked
+  step h = let e : n - i ≡ suc (n - (i + 1)) = omega arith in rw e
 
-pub free-end : (m : List ℕ) (n i : ℕ) → n ≤ i → free_marked m (n - i) i ≡ i
-unfolding free_marked
-free-end m n i h = let e : n - i ≡ 0 = omega arith in rw e
+  pub free_hit : i < n → get_or m i 0 ≡ 0 → free_marked m (n - i) i ≡ i
+  free_hit h e = step h ∙ rw (eq-eqb (get_or m i 0) 0 e)
+
+  pub free_miss : i < n → get_or m i 0 ≢ 0 → free_marked m (n - (i + 1)) (i + 1) ≡ free_marked m (n - i) i
+  free_miss h e = sym (step h ∙ rw (ne_eqb (get_or m i 0) 0 e))
+
+  pub free_end : n ≤ i → free_marked m (n - i) i ≡ i
+  unfolding free_marked
+  free_end h = let e : n - i ≡ 0 = omega arith in rw e
 
 -- a slot that is looked for lies below the bound, or is the bound
 pick-le : (b : Bool) (s x n : ℕ) → s ≤ n → x ≤ n → pick b s x ≤ n

@@ -1,13 +1,9 @@
 -- `Thread::new`, `ThreadContext::new` and `clear_wait` of thread.rs.
-use Rattle.std.specs.Prelude.{true, false, [], ◌∷◌, ℕ, ◌+◌, ◌-◌, ◌*◌, ◌/◌, ◌%◌, replicate}
-use Rattle.types.specs.declared.thread.TickOption.TheVariants.{NoTick}
-use Rattle.types.specs.declared.thread.AddressOption.TheVariants.{NoAddress}
+use Rattle.std.specs.Prelude.{true, false, [], ◌∷◌, ℕ, ◌+◌, ◌-◌, ◌*◌, ◌/◌, ◌%◌, replicate, None, Option}
 use Rattle.types.specs.declared.thread.ThreadStatus.{ThreadStatus}
 use Rattle.types.specs.declared.thread.ThreadStatus.TheVariants.{Ready}
 use Rattle.types.specs.declared.thread.WaitResult.{WaitResult}
-use Rattle.types.specs.declared.thread.WaitResult.TheVariants.{NoResult}
 use Rattle.types.specs.declared.thread.WaitSyscall.{WaitSyscall}
-use Rattle.types.specs.declared.thread.WaitSyscall.TheVariants.{NoSyscall}
 use Rattle.types.specs.declared.thread.Thread.{Thread}
 use Rattle.types.specs.declared.thread.ThreadContext.{ThreadContext}
 use Rattle.types.specs.Thread.{wait_list}
@@ -24,12 +20,12 @@ new_thread entry stack priority processor tls guest = record {
   wait_objects = replicate wait_list (record { 0 = 0 });
   wait_count = 0;
   wait_all = false;
-  wakeup_at = NoTick;
+  wakeup_at = None;
   running_since = record { 0 = 0 };
   waited = true;
-  wait_address = NoAddress;
-  wait_result = NoResult;
-  wait_syscall = NoSyscall;
+  wait_address = None;
+  wait_result = None;
+  wait_syscall = None;
   guest_id = guest;
 }
 
@@ -60,10 +56,10 @@ clear_wait t = record {
   wait_objects = replicate wait_list (record { 0 = 0 });
   wait_count = 0;
   wait_all = false;
-  wakeup_at = NoTick;
+  wakeup_at = None;
   running_since = t.running_since;
   waited = t.waited;
-  wait_address = NoAddress;
+  wait_address = None;
   wait_result = t.wait_result;
   wait_syscall = t.wait_syscall;
   guest_id = t.guest_id;
@@ -89,7 +85,7 @@ with_status t x = record {
   guest_id = t.guest_id;
 }
 
-abbrev pub with_result : Thread → WaitResult → WaitSyscall → Thread
+abbrev pub with_result : Thread → Option WaitResult → Option WaitSyscall → Thread
 with_result t r c = record {
   status = t.status;
   priority = t.priority;

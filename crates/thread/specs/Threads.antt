@@ -1,12 +1,8 @@
 -- The thread part of mod.rs: TLS slots, places, making and ending a thread.
-use Rattle.std.specs.Prelude.{Bool, List, map, ℕ, zero, suc, ◌+◌, eqb, leb, ltb, set, take}
+use Rattle.std.specs.Prelude.{Bool, List, map, ℕ, zero, suc, ◌+◌, eqb, leb, ltb, set, take, Option, None}
 use Rattle.laws.specs.Logic.{pick, ◌and◌, ◌or◌}
 use Rattle.laws.specs.Count.{count}
-use Rattle.types.specs.declared.thread.ThreadOption.{ThreadOption}
-use Rattle.types.specs.declared.thread.ThreadOption.TheVariants.{NoThread}
 use Rattle.types.specs.declared.thread.ThreadStatus.TheVariants.{Dead}
-use Rattle.types.specs.declared.thread.WaitResult.TheVariants.{NoResult}
-use Rattle.types.specs.declared.thread.WaitSyscall.TheVariants.{NoSyscall}
 use Rattle.types.specs.declared.thread.Thread as th
 use Rattle.types.specs.declared.sync.Mutex as mu
 use Rattle.types.specs.declared.object.KObject.{KObject}
@@ -105,7 +101,7 @@ end_wait k t = with_threads k (set k.threads t (clear_wait (thread_at k.threads 
 
 -- ---- `end_thread`: every mutex that it owns is given back, all the way down
 abbrev pub disowned_mutex : ℕ → mu.Mutex → mu.Mutex
-disowned_mutex t m = pick (is_current m.owner t) (record { owner = NoThread; lock_count = 0 }) m
+disowned_mutex t m = pick (is_current m.owner t) (record { owner = None; lock_count = 0 }) m
 
 abbrev pub disowned : ℕ → KObject → KObject
 disowned t (Free n) = Free n
@@ -125,10 +121,10 @@ unfoldable pub disown : ObjectStore → ℕ → ObjectStore
 disown s t = with_slots s (disowned_slots t s.slots)
 
 abbrev pub ended : th.Thread → th.Thread
-ended t = with_result (with_status t Dead) NoResult NoSyscall
+ended t = with_result (with_status t Dead) None None
 
-abbrev pub left_by : ThreadOption → ℕ → ThreadOption
-left_by c t = pick (is_current c t) NoThread c
+abbrev pub left_by : Option ℕ → ℕ → Option ℕ
+left_by c t = pick (is_current c t) None c
 
 unfoldable pub end_thread : Kernel → ℕ → Kernel
 end_thread k t =

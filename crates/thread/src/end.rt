@@ -8,15 +8,14 @@ ghost use Rattle.thread.specs.Threads as def;
 use crate::thread;
 use types::object::{KObject, Slot};
 use types::sync::Mutex;
-use types::thread::{Thread, ThreadOption, ThreadStatus, WaitResult, WaitSyscall};
+use types::thread::{Thread, ThreadStatus};
 
 fn disowned_mutex(t: u32, m: Mutex) -> Mutex
     ensures { result ≡ def.disowned_mutex t m }
 {
-    let w = m.owner;
-    if sound::is_current(w, t) {
+    if sound::is_current(m.owner, t) {
         return Mutex {
-            owner: ThreadOption::NoThread,
+            owner: None,
             lock_count: 0,
         };
     }
@@ -27,27 +26,17 @@ fn disowned(t: u32, o: KObject) -> KObject
     ensures { result ≡ def.disowned t o }
 {
     match o {
-        KObject::Free(n) => KObject::Free(n),
-        KObject::Thread(u) => KObject::Thread(u),
-        KObject::Event(e) => KObject::Event(e),
         KObject::Mutex(m) => KObject::Mutex(disowned_mutex(t, m)),
-        KObject::Semaphore(s) => KObject::Semaphore(s),
-        KObject::Timer(u) => KObject::Timer(u),
-        KObject::AddressArbiter(a) => KObject::AddressArbiter(a),
-        KObject::Process => KObject::Process,
-        KObject::ResourceLimit => KObject::ResourceLimit,
+        other => other,
     }
 }
 
 pub fn disowned_slot(t: u32, s: Slot) -> Slot
     ensures { result ≡ with_object s (def.disowned t s.object) }
 {
-    let o = s.object;
-    let x = disowned(t, o);
     Slot {
-        object: x,
-        refcount: s.refcount,
-        pulsed: s.pulsed,
+        object: disowned(t, s.object),
+        ..s
     }
 }
 
@@ -55,26 +44,19 @@ pub fn disowned_slot(t: u32, s: Slot) -> Slot
 pub fn is_mutex(s: Slot) -> bool
     ensures { result ≡ eqb (kind_number s.object) 3 }
 {
-    let o = s.object;
-    types::object::is_mutex(o)
+    types::object::is_mutex(s.object)
 }
 
-pub fn left_by(w: ThreadOption, t: u32) -> ThreadOption
+pub fn left_by(w: Option<u32>, t: u32) -> Option<u32>
     ensures { result ≡ def.left_by w t }
 {
-    if sound::is_current(w, t) {
-        return ThreadOption::NoThread;
-    }
-    w
+    if sound::is_current(w, t) { None } else { w }
 }
 
 // A thread that waits for nothing and is Dead.
 pub fn ended(t: Thread) -> Thread
     ensures { result ≡ def.ended (clear_wait t) }
 {
-    thread::with_result(
-        thread::with_status(thread::without_wait(t), ThreadStatus::Dead),
-        WaitResult::NoResult,
-        WaitSyscall::NoSyscall,
-    )
+    let u = thread::with_status(thread::without_wait(t), ThreadStatus::Dead);
+    thread::with_result(u, None, None)
 }

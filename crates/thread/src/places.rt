@@ -1,28 +1,24 @@
 // The TLS slot that a new thread gets (`allocate_tls`).
-ghost use Rattle.std.specs.Prelude.{◌≡◌, ◌+◌, ◌-◌, ◌<◌, ◌≤◌};
+ghost use Rattle.std.specs.Prelude.{◌≡◌, ◌≤◌};
 ghost use Rattle.thread.specs.Threads.{least};
 ghost use Rattle.thread.specs.Marks.{free_marked};
 
 pub fn least_of(a: u32, b: u32) -> u32
     ensures { result ≡ least a b }
 {
-    if a < b {
-        return a;
-    }
-    b
+    a.min(b)
 }
 
 // The first of the n slots from 0 that m does not mark, or n.
-pub fn free_slot(m: [u32; 129], n: u32) -> u32
+#[tactic(auto, using(crate::proofs::Steps::free_hit, crate::proofs::Steps::free_miss, crate::proofs::Steps::free_end))]
+pub fn free_slot(m: &[u32; 129], n: u32) -> u32
     requires { n ≤ 32 }
-    ensures { result ≡ free_marked m n 0 }
+    ensures { result ≡ free_marked m.now n 0 }
 {
-    let mut i: u32 = 0;
-    while i < n {
+    for i in 0..n {
         if m[i as usize] == 0 {
             return i;
         }
-        i += 1;
     }
-    i
+    n
 }

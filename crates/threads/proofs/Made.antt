@@ -1,4 +1,5 @@
 -- What is found when a guest makes a thread, and what the call leaves. Assumes nothing.
+use Rattle.std.specs.Prelude.{Ok}
 use mathlib.Core.Path.{◌≡◌, sym, ap, ◌∙◌}
 use mathlib.Core.Bool.{Bool, true, false}
 use mathlib.Core.List.{List}
@@ -115,6 +116,6 @@ module _ (b : List ℕ) (s : sound? b ≡ true) (r : Registers) (w1 : Word r.r1)
     left-made d i q h =
         h.same ∙ (λ x. enc_block (thread_handle (state x) (q x)).kernel) ∙ sym (left-0 (create_thread k r) b (made-finding b s r ∙ z))
 
-  pub outcome-made : given k.handles.next.0 ≡ outcome (create_thread k r)
+  pub outcome-made : Ok (given k.handles.next.0) ≡ outcome (create_thread k r)
   unfolding create_thread thread.create_thread
   outcome-made = sym (outcome-0 (create_thread k r) (made-finding b s r ∙ z))

@@ -5,51 +5,48 @@ ghost use Rattle.sound.specs.Objects.{kept_at};
 ghost use Rattle.sound.specs.Question.{sound?};
 ghost use Rattle.thread.specs.Threads.{ended_thread};
 ghost use Rattle.svc.specs.Threads as def;
+ghost use Rattle.types.specs.Refusal.{unless_found};
 ghost use Rattle.rows.specs.Holds.{Holds};
 ghost use Rattle.outcome.specs.Outcome.{outcome, left};
 ghost use Rattle.threads.specs.Made.{made_store, found_made};
 
-use block::Head;
+use block::{Block, Head};
 use codec::Four;
-use object::handles;
 use outcome::Outcome;
 use rows::{read, write};
 use svc::Registers;
 use types::object::{HandleEntry, KObject, Slot};
+use types::refusal::Refusal;
 use units::{Handle, ObjectId};
 
-// No slot is free for the thread's object. The object of an ended thread, if there is one, makes room when it is let go.
-fn no_slot(block: &[u8], id: u32) -> bool
-    requires block_len { length block.now ≡ 16384 }
+// No slot is free for the thread's object. The object of an ended thread, if there is one, makes room when it is let
+// go.
+fn no_slot(block: &Block, id: u32) -> bool
     requires block_value { sound? block.now ≡ true }
     requires id_value { id ≡ ended_thread (dec_block block.now) }
     ensures { result ≡ eqb (made_store (dec_block block.now)).free 0 }
 {
-    let o = read::kept_at(block, id);
-    if o.0 != 0 {
-        return false;
-    }
-    codec::get32(block, 32) == 0
+    read::kept_at(block, id).0 == 0 && codec::get32(block, 32) == 0
 }
 
-fn found_making(block: &[u8], id: u32) -> u32
-    requires block_len { length block.now ≡ 16384 }
+fn room_to_make(block: &Block, id: u32) -> Result<(), Refusal>
     requires block_value { sound? block.now ≡ true }
     requires id_value { id ≡ ended_thread (dec_block block.now) }
-    ensures { result ≡ found_made (dec_block block.now) }
+    ensures { result ≡ unless_found (found_made (dec_block block.now)) tt }
 {
     let none = no_slot(block, id);
     let guest = codec::get32(block, 20);
     let count = codec::get32(block, 40);
     let next = codec::get32(block, 44);
-    let full = handles::either(32 <= id, handles::either(none, 256 <= count));
-    let over = handles::either(4294967295 <= guest, 0xFFFF8000 <= next);
-    outcome::found_of(full, over)
+    let crowded = none || 256 <= count;
+    outcome::room(
+        32 <= id || crowded,
+        4294967295 <= guest || 0xFFFF8000 <= next,
+    )
 }
 
 // The object of thread id, kept and with a handle: two name it. All have room.
-fn put_handle(block: &mut [u8], id: u32)
-    requires block_len { length block.old ≡ 16384 }
+fn put_handle(block: &mut Block, id: u32)
     requires block_value { sound? block.old ≡ true }
     requires id_bound { id < 32 }
     requires id_value { kept_at (dec_block block.old).objects id ≡ 0 }
@@ -59,58 +56,36 @@ fn put_handle(block: &mut [u8], id: u32)
     ensures { Holds block.new (def.thread_handle (dec_block block.old) id).kernel }
 {
     let head = block::get_head(block);
-    let p = head.a;
-    let q = head.b;
-    let c = head.c;
-    let d = head.d;
-    let old = read::slot_at(block, ObjectId(c.0));
-    let x = old.object;
-    let mark = old.pulsed;
-    let next = types::object::next_of(x);
-    write::put_slot(
-        block,
-        ObjectId(c.0),
-        Slot {
-            object: KObject::Thread(id),
-            refcount: 2,
-            pulsed: mark,
-        },
-    );
-    write::put_kept(block, id, ObjectId(c.0));
-    write::put_entry(
-        block,
-        c.2,
-        HandleEntry {
-            handle: Handle(c.3),
-            object: ObjectId(c.0),
-        },
-    );
-    write::put_head(
-        block,
-        Head {
-            a: p,
-            b: q,
-            c: Four(next, c.1, c.2 + 1, c.3 + 1),
-            d: d,
-        },
-    );
+    let o = ObjectId(head.c.0);
+    let old = read::slot_at(block, o);
+    let next = types::object::next_of(old.object);
+    let slot = Slot {
+        object: KObject::Thread(id),
+        refcount: 2,
+        ..old
+    };
+    write::put_slot(block, o, slot);
+    write::put_kept(block, id, o);
+    let entry = HandleEntry {
+        handle: Handle(head.c.3),
+        object: o,
+    };
+    write::put_entry(block, head.c.2, entry);
+    let c = Four(next, head.c.1, head.c.2 + 1, head.c.3 + 1);
+    write::put_head(block, Head { c, ..head });
 }
 
 // r1 gets a handle to the new thread.
-pub fn create_thread(block: &mut [u8], r: Registers) -> Outcome
-    requires block_len { length block.old ≡ 16384 }
+pub fn create_thread(block: &mut Block, r: Registers) -> Result<Outcome, Refusal>
     requires block_value { sound? block.old ≡ true }
     ensures value { result ≡ outcome (def.create_thread (dec_block block.old) r) }
     ensures block_after { block.new ≡ left (def.create_thread (dec_block block.old) r) block.old }
 {
     let id = vacant::ended_thread(block);
-    let found = found_making(block, id);
-    if found != 0 {
-        return outcome::refused(found);
-    }
+    room_to_make(block, id)?;
     let tls = vacant::tls_slot(block);
     let next = codec::get32(block, 44);
     spawn::put_created(block, id, tls, r.r1, r.r3, r.r0, r.r4);
     put_handle(block, id);
-    outcome::gives(next)
+    Ok(outcome::gives(next))
 }

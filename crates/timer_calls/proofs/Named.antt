@@ -23,7 +23,7 @@ use Rattle.rows.specs.Holds.{Holds, holds}
 use Rattle.outcome.specs.Outcome.{answered, accepted}
 use Rattle.objects.proofs.Changed.{content-finding, put-content}
 use Rattle.timer_calls.specs.Kinds.{timer_of}
-use Rattle.timer_calls.specs.Named.{set_opened, changed}
+use Rattle.timer_calls.specs.Named.{set_opened, changed, change_caught}
 
 -- ---- an object of another kind, and one of the kind
 timer_other : (x : KObject) (k : Kernel) (o a b tick : ℕ) → timer? x ≡ false → answers 16 k ≡ set_timer_as x k o a b tick
@@ -72,13 +72,17 @@ module _ (k : Kernel) (r : Registers) (tick : ℕ) where
   unfolding set_timer
   set_timer-finding = set-finding (object_at opened.objects object) opened object (not_below (pair r.r2 r.r3)) (not_below (pair r.r1 r.r4)) tick
 
-  pub cancel_timer-finding : finding (cancel_timer k r tick).kernel ≡ finding opened
-  unfolding cancel_timer
-  cancel_timer-finding = content-finding opened object _
+  pub change_caught-finding : (f : KObject → KObject) → finding (change_caught f k r tick).kernel ≡ finding opened
+  unfolding change_caught
+  change_caught-finding f = content-finding opened object _
 
-  pub clear_timer-finding : finding (clear_timer k r tick).kernel ≡ finding opened
-  unfolding clear_timer
-  clear_timer-finding = content-finding opened object _
+  pub cancel_is : change_caught cancelled k r tick ≡ cancel_timer k r tick
+  unfolding cancel_timer change_caught
+  cancel_is = refl
+
+  pub clear_is : change_caught lost_object k r tick ≡ clear_timer k r tick
+  unfolding clear_timer change_caught
+  clear_is = refl
 
   -- ---- the call from the opened state q on
   module _ (q : Kernel) (e : q ≡ opened) (o : ℕ) (f : o ≡ object) where
@@ -86,13 +90,9 @@ module _ (k : Kernel) (r : Registers) (tick : ℕ) where
     unfolding set_timer
     set_is = λ i. set_opened (e i) (f i) r tick
 
-    pub cancel_is : done (changed cancelled q o) ≡ cancel_timer k r tick
-    unfolding cancel_timer
-    cancel_is = λ i. done (changed cancelled (e i) (f i))
-
-    pub clear-is : done (changed lost_object q o) ≡ clear_timer k r tick
-    unfolding clear_timer
-    clear-is = λ i. done (changed lost_object (e i) (f i))
+    pub changed_is : (g : KObject → KObject) → done (changed g q o) ≡ change_caught g k r tick
+    unfolding change_caught
+    changed_is g = λ i. done (changed g (e i) (f i))
 
 -- ---- in the block; x is the slot of the object o
 module _ (b : List ℕ) (s : sound? b ≡ true) (o : ℕ) (x : Slot) (ex : x ≡ slot_at (dec_block b).objects.slots o) where

@@ -1,14 +1,15 @@
 -- A handle opened after the timers have fired. Assumes nothing.
+use Rattle.std.specs.Prelude.{Option, Some, None, Result, Err}
 use mathlib.Core.Path.{◌≡◌, refl, sym, ap, subst, ◌∙◌}
 use mathlib.Core.Bool.{Bool, true, false}
 use mathlib.Core.List.{List}
-use mathlib.Core.Logic.{◌≢◌}
 use Prim.Native.Nat.{ℕ}
 use lib.Dec.{eqb}
 use Rattle.laws.specs.Logic.{pick, ◌and◌, ◌or◌, or-false}
+use Rattle.units.specs.declared.ObjectId.{ObjectId}
+use Rattle.types.specs.declared.refusal.Refusal.{Refusal}
+use Rattle.types.specs.Refusal.{refusal_number, refusal-some, found_in}
 use Rattle.types.specs.declared.thread.Thread.{Thread}
-use Rattle.types.specs.declared.thread.ThreadOption.{ThreadOption}
-use Rattle.types.specs.declared.thread.ThreadOption.TheVariants.{NoThread, SomeThread}
 use Rattle.types.specs.declared.object.Slot.{Slot}
 use Rattle.types.specs.declared.object.ObjectStore.{ObjectStore}
 use Rattle.types.specs.declared.kernel.Kernel.{Kernel}
@@ -22,7 +23,6 @@ use Rattle.svc.specs.Timers.{caught_up}
 use Rattle.calling.specs.Resolves.{resolve-overflow}
 use Rattle.lent.specs.Operations.{finding, out_of_handles?}
 use Rattle.outcome.specs.Findings.{found_of, none_found, parts-finding}
-use Rattle.objects.specs.declared.open.Opened.{Opened}
 use Rattle.objects.specs.Open.{Opens, makes_current, no_room}
 use Rattle.objects.proofs.Room.{resolved-full}
 use Rattle.objects.proofs.Sound.{opened-state}
@@ -40,9 +40,9 @@ pub caught-full : (b : List ℕ) (tick : ℕ) → (caught_up (dec_block b) tick)
 unfolding dec_block
 caught-full b tick = ap (λ (s : ObjectStore). s.full) (caught_as (dec_block b).objects (dec_block b).threads tick)
 
-makes-slots : (s : ObjectStore) (l : List Slot) (v : Bool) (c : ThreadOption) → makes_current (with_overflow (with_slots s l) v) c ≡ makes_current s c
-makes-slots s l v NoThread = refl
-makes-slots s l v (SomeThread t) = refl
+makes-slots : (s : ObjectStore) (l : List Slot) (v : Bool) (c : Option ℕ) → makes_current (with_overflow (with_slots s l) v) c ≡ makes_current s c
+makes-slots s l v None = refl
+makes-slots s l v (Some t) = refl
 
 room-slots : (k : Kernel) (l : List Slot) (v : Bool) (h : ℕ) → no_room (with_objects k (with_overflow (with_slots k.objects l) v)) h ≡ no_room k h
 room-slots k l v h = ap (λ (z : Bool). eqb k.objects.free 0 and pick (eqb h 0xFFFF8000) z (pick (eqb h 0xFFFF8001) (eqb k.objects.process_object.0 0) false)) (makes-slots k.objects l v k.current_thread)
@@ -69,15 +69,20 @@ module _ (b : List ℕ) (h tick : ℕ) where
   caught-fits z = (or-false caught.objects.overflow (out_of_handles? k) (none_found (no_room k h) (caught.objects.overflow or out_of_handles? k) z).1).0
 
   -- something is found already
-  pub opens_found : (o : Opened) → o.found ≡ found_of (no_room k h) (caught.objects.overflow or out_of_handles? k) → o.found ≢ 0 → Opens caught (resolved caught h) b b o
-  opens_found o f z = record { found = f ∙ sym caught-finding; same = λ w. refl; holds = λ w. absurd (z w); object = λ w. absurd (z w) }
+  pub opens_refused : (r : Refusal) → found_of (no_room k h) (caught.objects.overflow or out_of_handles? k) ≡ refusal_number r → Opens caught (resolved caught h) b b (Err r)
+  opens_refused r f = record {
+    found = sym (caught-finding ∙ f);
+    same = λ w. refl;
+    holds = λ w. absurd (refusal-some r w);
+    object = λ w. absurd (refusal-some r w);
+  }
 
   -- nothing is; m is the block once the timers have fired
-  module _ (m : List ℕ) (q : dec_block m ≡ caught) (s : sound? m ≡ true) (e : List ℕ) (o : Opened) (p : Opens (dec_block m) (resolved (dec_block m) h) m e o) where
+  module _ (m : List ℕ) (q : dec_block m ≡ caught) (s : sound? m ≡ true) (e : List ℕ) (o : Result ObjectId Refusal) (p : Opens (dec_block m) (resolved (dec_block m) h) m e o) where
     pub opens_caught : found_of (no_room k h) (caught.objects.overflow or out_of_handles? k) ≡ 0 → Opens caught (resolved caught h) b e o
     opens_caught z =
         let w : Opens caught (resolved caught h) m e o = subst (λ (x : Kernel). Opens x (resolved x h) m e o) q p in
         record { found = w.found; same = λ v. absurd (v (w.found ∙ caught-finding ∙ z)); holds = w.holds; object = w.object }
 
-    pub state-caught : o.found ≡ 0 → dec_block e ≡ with_objects caught (resolved caught h).store
+    pub state-caught : found_in o ≡ 0 → dec_block e ≡ with_objects caught (resolved caught h).store
     state-caught z = opened-state m s h e o p z ∙ (λ i. with_objects (q i) (resolved (q i) h).store)

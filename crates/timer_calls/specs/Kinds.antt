@@ -1,13 +1,12 @@
 -- The timer that an object holds; all 0 for another kind.
-use Rattle.std.specs.Prelude.{false}
-use Rattle.types.specs.declared.thread.TickOption.TheVariants.{NoTick}
+use Rattle.std.specs.Prelude.{false, None}
 use Rattle.types.specs.declared.sync.ResetType.TheVariants.{OneShot}
 use Rattle.types.specs.declared.sync.Timer as ti
 use Rattle.types.specs.declared.object.KObject.{KObject}
 use Rattle.types.specs.declared.object.KObject.TheVariants.{Free, Thread, Event, Mutex, Semaphore, Timer, AddressArbiter, Process, ResourceLimit}
 
 abbrev pub no_timer : ti.Timer
-no_timer = record { reset_type = OneShot; signaled = false; fire_at = NoTick; interval = record { 0 = 0 } }
+no_timer = record { reset_type = OneShot; signaled = false; fire_at = None; interval = record { 0 = 0 } }
 
 abbrev pub timer_of : KObject → ti.Timer
 timer_of (Free n) = no_timer

@@ -1,5 +1,5 @@
 // What setting and cancelling make of a timer (`set_timer`, `cancel_timer` of svc.rs).
-ghost use Rattle.std.specs.Prelude.{◌≡◌};
+ghost use Rattle.std.specs.Prelude.{◌≡◌, None};
 ghost use Rattle.svc.specs.Call.{pair};
 ghost use Rattle.svc.specs.Timers as def;
 ghost use Rattle.timer_calls.specs.Kinds.{no_timer, timer_of};
@@ -7,7 +7,6 @@ ghost use Rattle.timer_calls.specs.Kinds.{no_timer, timer_of};
 use svc::Registers;
 use types::object::KObject;
 use types::sync::{ResetType, Timer};
-use types::thread::TickOption;
 use units::{Nanos, Ticks};
 
 fn no_timer() -> Timer
@@ -16,7 +15,7 @@ fn no_timer() -> Timer
     Timer {
         reset_type: ResetType::OneShot,
         signaled: false,
-        fire_at: TickOption::NoTick,
+        fire_at: None,
         interval: Ticks(0),
     }
 }
@@ -26,15 +25,8 @@ fn timer_of(x: KObject) -> Timer
     ensures { result ≡ timer_of x }
 {
     match x {
-        KObject::Free(_n) => no_timer(),
-        KObject::Thread(_t) => no_timer(),
-        KObject::Event(_e) => no_timer(),
-        KObject::Mutex(_m) => no_timer(),
-        KObject::Semaphore(_s) => no_timer(),
         KObject::Timer(t) => t,
-        KObject::AddressArbiter(_a) => no_timer(),
-        KObject::Process => no_timer(),
-        KObject::ResourceLimit => no_timer(),
+        _ => no_timer(),
     }
 }
 
@@ -52,15 +44,12 @@ fn delay(low: u32, high: u32) -> Nanos
 fn set_to(t: Timer, initial: Nanos, interval: Nanos, tick: Ticks) -> Timer
     ensures { result ≡ def.set_to t initial.0 interval.0 tick.0 }
 {
-    let kind = t.reset_type;
     let first = units::nanos_to_ticks(initial);
-    let at = begin::saturating_add(tick, first);
-    let period = units::nanos_to_ticks(interval);
     Timer {
-        reset_type: kind,
         signaled: false,
-        fire_at: TickOption::SomeTick(at),
-        interval: period,
+        fire_at: Some(begin::saturating_add(tick, first)),
+        interval: units::nanos_to_ticks(interval),
+        ..t
     }
 }
 
@@ -68,37 +57,20 @@ fn set_to(t: Timer, initial: Nanos, interval: Nanos, tick: Ticks) -> Timer
 pub fn set_by(x: KObject, r: Registers, tick: Ticks) -> Timer
     ensures { result ≡ def.set_to (timer_of x) (def.not_below (pair r.r2 r.r3)) (def.not_below (pair r.r1 r.r4)) tick.0 }
 {
-    let t = timer_of(x);
-    let initial = delay(r.r2, r.r3);
-    let interval = delay(r.r1, r.r4);
-    set_to(t, initial, interval, tick)
+    set_to(timer_of(x), delay(r.r2, r.r3), delay(r.r1, r.r4), tick)
 }
 
 fn stopped(t: Timer) -> Timer
-    ensures { result ≡ record { reset_type = t.reset_type; signaled = t.signaled; fire_at = TickOption.NoTick; interval = t.interval } }
+    ensures { result ≡ record { reset_type = t.reset_type; signaled = t.signaled; fire_at = None; interval = t.interval } }
 {
-    let kind = t.reset_type;
-    let interval = t.interval;
-    Timer {
-        reset_type: kind,
-        signaled: t.signaled,
-        fire_at: TickOption::NoTick,
-        interval: interval,
-    }
+    Timer { fire_at: None, ..t }
 }
 
 pub fn cancelled(x: KObject) -> KObject
     ensures { result ≡ def.cancelled x }
 {
     match x {
-        KObject::Free(n) => KObject::Free(n),
-        KObject::Thread(t) => KObject::Thread(t),
-        KObject::Event(e) => KObject::Event(e),
-        KObject::Mutex(m) => KObject::Mutex(m),
-        KObject::Semaphore(s) => KObject::Semaphore(s),
         KObject::Timer(t) => KObject::Timer(stopped(t)),
-        KObject::AddressArbiter(a) => KObject::AddressArbiter(a),
-        KObject::Process => KObject::Process,
-        KObject::ResourceLimit => KObject::ResourceLimit,
+        other => other,
     }
 }

@@ -1,5 +1,5 @@
 -- Who can run after the tries of a pass was not Dead before them.
-use Rattle.std.specs.Prelude.{◌≡◌, refl, Bool, true, false, ℕ}
+use Rattle.std.specs.Prelude.{◌≡◌, refl, Bool, true, false, ℕ, Option}
 use Rattle.std.proofs.Common.{ap, sym, ◌∙◌, inl, inr, arith}
 use Rattle.laws.specs.Logic.{false-true, lt-cases}
 use Rattle.types.specs.declared.thread.ThreadStatus.{ThreadStatus}
@@ -9,7 +9,6 @@ use Rattle.types.specs.declared.kernel.Kernel.{Kernel}
 use Rattle.types.specs.Thread.{is_dead}
 use Rattle.sound.specs.View.{thread_at}
 use Rattle.sound.specs.Objects.{Live}
-use Rattle.pass.specs.declared.IndexOption.{IndexOption}
 use Rattle.pass.specs.Timers.{due_by}
 use Rattle.pass.specs.Waits.{fate_as}
 use Rattle.pass.specs.Pick.{is_runnable}
@@ -20,7 +19,7 @@ use Rattle.timing.specs.Turn.{stays?, tries_other, tried-stays}
 use Rattle.timing.specs.Late.{found_at, fate-is}
 
 -- a Dead thread stays
-dead-stays : (s : ThreadStatus) (x : IndexOption) (late : Bool) → is_dead s ≡ true → stays? (fate_as s x late) ≡ true
+dead-stays : (s : ThreadStatus) (x : Option ℕ) (late : Bool) → is_dead s ≡ true → stays? (fate_as s x late) ≡ true
 dead-stays Dead x late e = refl
 dead-stays Running x late e = false-true e
 dead-stays Ready x late e = false-true e

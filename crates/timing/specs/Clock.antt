@@ -1,8 +1,8 @@
 -- When a timer is due and how often, object by object, and what leaves that alone.
-use Rattle.std.specs.Prelude.{◌≡◌, refl, Bool, not, ◌≢◌, List, [], ◌∷◌, ℕ, zero, suc, ◌≤◌, ◌<◌, length}
+use Rattle.units.specs.declared.Ticks.{Ticks}
+use Rattle.std.specs.Prelude.{◌≡◌, refl, Bool, not, ◌≢◌, List, [], ◌∷◌, ℕ, zero, suc, ◌≤◌, ◌<◌, length, Option}
 use Rattle.std.proofs.Common.{ap, ◌∙◌}
 use Rattle.laws.specs.Logic.{◌and◌, ◌or◌}
-use Rattle.types.specs.declared.thread.TickOption.{TickOption}
 use Rattle.types.specs.declared.thread.Thread as th
 use Rattle.types.specs.declared.object.KObject.{KObject}
 use Rattle.types.specs.declared.object.KObject.TheVariants.{Free, Thread, Event, Mutex, Semaphore, Timer, AddressArbiter, Process, ResourceLimit}
@@ -35,7 +35,7 @@ interval_of ResourceLimit = 0
 
 pub record Clock : Type 0 where
   pub kind : ℕ
-  pub due : TickOption
+  pub due : Option Ticks
   pub interval : ℕ
 
 abbrev pub clock_of : KObject → Clock

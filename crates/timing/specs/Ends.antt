@@ -1,9 +1,8 @@
 -- A pass and a timed wait: it goes on, ends by time or is given something, and each says how the tick and what is waited for stand.
-use Rattle.std.specs.Prelude.{◌≡◌, refl, Bool, true, false, ℕ, ◌≤◌, ◌<◌}
+use Rattle.std.specs.Prelude.{◌≡◌, refl, Bool, true, false, ℕ, ◌≤◌, ◌<◌, Some}
 use Rattle.std.proofs.Common.{sym, ◌∙◌, inl, inr}
 use Rattle.laws.specs.Logic.{lt-cases, false-true}
 use Rattle.units.specs.declared.Ticks.{Ticks}
-use Rattle.types.specs.declared.thread.TickOption.TheVariants.{SomeTick}
 use Rattle.types.specs.declared.kernel.Kernel.{Kernel}
 use Rattle.sound.specs.View.{thread_at}
 use Rattle.pass.specs.Pick.{is_runnable}
@@ -19,7 +18,7 @@ pub data Ends (k : Kernel) (tick w : ℕ) (at : Ticks) : Type 0 where
   runs-out : is_runnable (thread_at (schedule k tick).kernel.threads w).status ≡ true → is_given (fate_at k tick w) ≡ false → at.0 ≤ tick → Ends k tick w at
   gets : is_runnable (thread_at (schedule k tick).kernel.threads w).status ≡ true → is_given (fate_at k tick w) ≡ true → Ends k tick w at
 
-module _ (k : Kernel) (tick w : ℕ) (l : w < 32) (b : Blocked k.threads w) (at : Ticks) (e : (thread_at k.threads w).wakeup_at ≡ SomeTick at) where
+module _ (k : Kernel) (tick w : ℕ) (l : w < 32) (b : Blocked k.threads w) (at : Ticks) (e : (thread_at k.threads w).wakeup_at ≡ Some at) where
   abbrev stays : Bool
   stays = stays? (fate_at k tick w)
 

@@ -1,11 +1,10 @@
 -- Firing moves the clock of every timer as `fired_due` says, in a pass and where a call catches up.
-use Rattle.std.specs.Prelude.{◌≡◌, Bool, true, false, not, List, [], ◌∷◌, map, ℕ, zero, suc, leb, get_or}
+use Rattle.units.specs.declared.Ticks.{Ticks}
+use Rattle.std.specs.Prelude.{◌≡◌, Bool, true, false, not, List, [], ◌∷◌, map, ℕ, zero, suc, leb, get_or, Option, Some, None}
 use Rattle.std.proofs.Math.Path.{refl, ap}
 use Rattle.std.proofs.Common.{sym, ◌∙◌}
 use Rattle.std.proofs.Math.ListN.{get_or-map}
 use Rattle.laws.specs.Logic.{pick, ◌and◌, ◌or◌, or-false, pick_no}
-use Rattle.types.specs.declared.thread.TickOption.{TickOption}
-use Rattle.types.specs.declared.thread.TickOption.TheVariants.{NoTick, SomeTick}
 use Rattle.types.specs.declared.thread.Thread as th
 use Rattle.types.specs.declared.sync.Timer as ti
 use Rattle.types.specs.declared.object.KObject.{KObject}
@@ -44,16 +43,16 @@ map_at g e l (suc i) = ap (λ (d : Slot). get_or (map g l) i d) (sym e) ∙ get_
 
 -- ---- `fire_timers`
 module _ (tick : ℕ) where
-  fired-at : (r : ℕ) (p : Bool) (t : ti.Timer) (at : TickOption) → t.fire_at ≡ at
+  fired-at : (r : ℕ) (p : Bool) (t : ti.Timer) (at : Option Ticks) → t.fire_at ≡ at
       → clock_in (fired_at (record { object = Timer t; refcount = r; pulsed = p }) t at tick) ≡ record { kind = kind_number (Timer t); due = fired_due t.interval.0 tick at; interval = t.interval.0 }
-  fired-at r p t NoTick e = ap (λ (d : TickOption). record { kind = kind_number (Timer t); due = d; interval = t.interval.0 }) e
-  fired-at r p t (SomeTick at) e = go (leb at.0 tick)
+  fired-at r p t None e = ap (λ (d : Option Ticks). record { kind = kind_number (Timer t); due = d; interval = t.interval.0 }) e
+  fired-at r p t (Some at) e = go (leb at.0 tick)
     where
       go : (b : Bool)
           → clock_in (pick b (record { object = Timer (fired_timer t at.0 tick); refcount = r; pulsed = p or is_pulse t.reset_type }) (record { object = Timer t; refcount = r; pulsed = p }))
-          ≡ record { kind = kind_number (Timer t); due = pick b (fired_timer t at.0 tick).fire_at (SomeTick at); interval = t.interval.0 }
+          ≡ record { kind = kind_number (Timer t); due = pick b (fired_timer t at.0 tick).fire_at (Some at); interval = t.interval.0 }
       go true = refl
-      go false = ap (λ (d : TickOption). record { kind = kind_number (Timer t); due = d; interval = t.interval.0 }) e
+      go false = ap (λ (d : Option Ticks). record { kind = kind_number (Timer t); due = d; interval = t.interval.0 }) e
 
   fired-as : (r : ℕ) (p : Bool) (x : KObject) → clock_in (fired_as (record { object = x; refcount = r; pulsed = p }) x tick) ≡ fired_clock tick (clock_of x)
   fired-as r p (Free n) = refl
@@ -102,14 +101,14 @@ not-due tick [] e (suc i) = refl
 not-due tick (x ∷ l) e (suc zero) = (or-false (due_by (due_of x.object) tick) (timer_due tick l) e).0
 not-due tick (x ∷ l) e (suc (suc i)) = not-due tick l (or-false (due_by (due_of x.object) tick) (timer_due tick l) e).1 (suc i)
 
-unfired : (B tick : ℕ) (due : TickOption) → due_by due tick ≡ false → fired_due B tick due ≡ due
-unfired B tick NoTick e = refl
-unfired B tick (SomeTick at) e = pick_no (leb at.0 tick) _ (SomeTick at) e
+unfired : (B tick : ℕ) (due : Option Ticks) → due_by due tick ≡ false → fired_due B tick due ≡ due
+unfired B tick None e = refl
+unfired B tick (Some at) e = pick_no (leb at.0 tick) _ (Some at) e
 
 unfired-clock : (tick : ℕ) (x : KObject) → due_by (due_of x) tick ≡ false → clock_of x ≡ fired_clock tick (clock_of x)
 unfired-clock tick x e =
     let c : Clock = clock_of x in
-    ap (λ (d : TickOption). record { kind = c.kind; due = d; interval = c.interval }) (sym (unfired c.interval tick c.due e))
+    ap (λ (d : Option Ticks). record { kind = c.kind; due = d; interval = c.interval }) (sym (unfired c.interval tick c.due e))
 
 catch_as : (b : Bool) (s : ObjectStore) (ts : List th.Thread) (tick o : ℕ) → timer_due tick s.slots ≡ b
     → clock_at (pick b (with_slots (fire_timers s tick) (lost_slots ts 1 (fire_timers s tick).slots)) s) o ≡ fired_clock tick (clock_at s o)

@@ -1,5 +1,5 @@
 -- The due tick of a timer that is fired at any ticks: on a grid, however late it is fired.
-use Rattle.std.specs.Prelude.{◌≡◌, refl, Bool, true, false, ℕ, ◌+◌, ◌-◌, ◌*◌, ◌/◌, ◌≤◌, ◌<◌, min, leb, ltb}
+use Rattle.std.specs.Prelude.{◌≡◌, refl, Bool, true, false, ℕ, ◌+◌, ◌-◌, ◌*◌, ◌/◌, ◌≤◌, ◌<◌, min, leb, ltb, Option, Some, None}
 use Rattle.std.proofs.Math.Path.{ap}
 use Rattle.std.proofs.Common.{sym, subst, ◌∙◌, inl, inr, arith, div-mul-le_self, lt_of_mul-lt-mul_right, leb-true, leb-false, ltb-true, ltb-false, lt-ltb, le-leb}
 use mathlib.Core.List.{List, [], ◌∷◌}
@@ -8,23 +8,21 @@ use Rattle.std.proofs.lemmas.Bool.{lt-leb}
 use Rattle.laws.specs.Logic.{pick, pick_yes, pick_no, ◌or◌, lt-cases}
 use Rattle.laws.specs.All.{All}
 use Rattle.units.specs.declared.Ticks.{Ticks}
-use Rattle.types.specs.declared.thread.TickOption.{TickOption}
-use Rattle.types.specs.declared.thread.TickOption.TheVariants.{NoTick, SomeTick}
 use Rattle.thread.specs.Threads.{least}
 use Rattle.pass.specs.Timers.{max_tick, saturating_add, saturating_mul, due_again}
 use Rattle.demand.specs.Words.{cut_off, Passes, Least, reached}
 
 -- ---- the due tick after timers were fired at a tick, and at each of a list
-abbrev pub fired_due : ℕ → ℕ → TickOption → TickOption
-fired_due interval tick NoTick = NoTick
-fired_due interval tick (SomeTick at) = pick (leb at.0 tick) (due_again at.0 interval tick) (SomeTick at)
+abbrev pub fired_due : ℕ → ℕ → Option Ticks → Option Ticks
+fired_due interval tick None = None
+fired_due interval tick (Some at) = pick (leb at.0 tick) (due_again at.0 interval tick) (Some at)
 
-unfoldable pub fired_dues : ℕ → List ℕ → TickOption → TickOption
+unfoldable pub fired_dues : ℕ → List ℕ → Option Ticks → Option Ticks
 fired_dues interval [] due = due
 fired_dues interval (tick ∷ ticks) due = fired_dues interval ticks (fired_due interval tick due)
 
 -- the point k of the grid from x in steps of B
-abbrev pub on_grid : ℕ → ℕ → ℕ → TickOption
+abbrev pub on_grid : ℕ → ℕ → ℕ → Option Ticks
 on_grid x B k = cut_off (x + k * B)
 
 -- 64 bits
@@ -45,7 +43,7 @@ saturated a b = omega (arith, least-min (a + least b max_tick) max_tick, least-m
 -- ---- one firing
 module _ (x B : ℕ) (pos : 0 < B) (P : ℕ → Type 0) (mono : (k j : ℕ) → k ≤ j → P k → P j) (k tick : ℕ) (fit : tick ≤ max_tick) (h : Least P k) where
   -- the point after timers were fired at the tick
-  abbrev Next : TickOption → Type 0
+  abbrev Next : Option Ticks → Type 0
   Next due = (k' : ℕ) × Least (λ j. (tick < x + j * B) × P j) k' × (due ≡ on_grid x B k')
 
   stay : tick < x + k * B → Next (on_grid x B k)
@@ -65,8 +63,8 @@ module _ (x B : ℕ) (pos : 0 < B) (P : ℕ → Type 0) (mono : (k j : ℕ) → 
           holds = (omega arith, mono k (k + q + 1) (omega arith) h.holds);
           least = λ j r. let c : k + q < j = lt_of_mul-lt-mul_right B (omega (arith, r.0)) in omega arith;
         },
-        pick_yes (ltb 0 B) _ NoTick (lt-ltb 0 B pos)
-            ∙ ap (λ (n : ℕ). SomeTick (record { 0 = n })) (saturated (x + k * B) (B * (q + 1)) ∙ ap (λ (n : ℕ). least n max_tick) e),
+        pick_yes (ltb 0 B) _ None (lt-ltb 0 B pos)
+            ∙ ap (λ (n : ℕ). Some (record { 0 = n })) (saturated (x + k * B) (B * (q + 1)) ∙ ap (λ (n : ℕ). least n max_tick) e),
       )
 
   -- past 64 bits it stays at the last tick
@@ -76,7 +74,7 @@ module _ (x B : ℕ) (pos : 0 < B) (P : ℕ → Type 0) (mono : (k j : ℕ) → 
       let m : ℕ = saturating_mul B ((tick - d) / B + 1) in
       let e : saturating_add d m ≡ d = omega (arith, least-min (d + m) max_tick, least-min (x + k * B) max_tick) in
       let n = stay (omega arith) in
-      (n.0, n.1, pick_yes (ltb 0 B) _ NoTick (lt-ltb 0 B pos) ∙ ap (λ (a : ℕ). SomeTick (record { 0 = a })) e ∙ n.2)
+      (n.0, n.1, pick_yes (ltb 0 B) _ None (lt-ltb 0 B pos) ∙ ap (λ (a : ℕ). Some (record { 0 = a })) e ∙ n.2)
 
   fire-at : (b : Bool) → leb (least (x + k * B) max_tick) tick ≡ b → Next (pick b (due_again (least (x + k * B) max_tick) B tick) (on_grid x B k))
   fire-at false e = stay (omega (arith, leb-false (least (x + k * B) max_tick) tick e, least-min (x + k * B) max_tick))
@@ -124,24 +122,24 @@ module _ (x B : ℕ) (pos : 0 < B) where
       (r.0, record { holds = r.1.holds.0; least = λ j p. r.1.least j (p, tt) }, r.2)
 
 -- ---- a tick before the due one changes nothing
-pub early-due : (B tick : ℕ) (at : Ticks) → tick < at.0 → fired_due B tick (SomeTick at) ≡ SomeTick at
-early-due B tick at l = pick_no (leb at.0 tick) _ (SomeTick at) (lt-leb at.0 tick l)
+pub early-due : (B tick : ℕ) (at : Ticks) → tick < at.0 → fired_due B tick (Some at) ≡ Some at
+early-due B tick at l = pick_no (leb at.0 tick) _ (Some at) (lt-leb at.0 tick l)
 
 -- ---- with an interval of 0 the first tick at or after the due one is the last firing
-pub once-due : (tick : ℕ) (at : Ticks) → at.0 ≤ tick → fired_due 0 tick (SomeTick at) ≡ NoTick
-once-due tick at l = pick_yes (leb at.0 tick) _ (SomeTick at) (le-leb at.0 tick l)
+pub once-due : (tick : ℕ) (at : Ticks) → at.0 ≤ tick → fired_due 0 tick (Some at) ≡ None
+once-due tick at l = pick_yes (leb at.0 tick) _ (Some at) (le-leb at.0 tick l)
 
-pub none-due : (B : ℕ) (ticks : List ℕ) → fired_dues B ticks NoTick ≡ NoTick
+pub none-due : (B : ℕ) (ticks : List ℕ) → fired_dues B ticks None ≡ None
 unfolding fired_dues
 none-due B [] = refl
 none-due B (tick ∷ ticks) = none-due B ticks
 
-pub once : (ticks : List ℕ) (at : Ticks) → fired_dues 0 ticks (SomeTick at) ≡ pick (reached at.0 ticks) NoTick (SomeTick at)
+pub once : (ticks : List ℕ) (at : Ticks) → fired_dues 0 ticks (Some at) ≡ pick (reached at.0 ticks) None (Some at)
 unfolding fired_dues reached ◌or◌
 once [] at = refl
 once (tick ∷ ticks) at = go (leb at.0 tick) (once ticks at)
   where
-    go : (b : Bool) → fired_dues 0 ticks (SomeTick at) ≡ pick (reached at.0 ticks) NoTick (SomeTick at)
-        → fired_dues 0 ticks (pick b NoTick (SomeTick at)) ≡ pick (b or reached at.0 ticks) NoTick (SomeTick at)
+    go : (b : Bool) → fired_dues 0 ticks (Some at) ≡ pick (reached at.0 ticks) None (Some at)
+        → fired_dues 0 ticks (pick b None (Some at)) ≡ pick (b or reached at.0 ticks) None (Some at)
     go true e = none-due 0 ticks
     go false e = e

@@ -1,5 +1,5 @@
 -- When a pass ends a wait by time: not before its tick, at the latest at its tick, and only if what it waits for is not there.
-use Rattle.std.specs.Prelude.{◌≡◌, Bool, ℕ, ◌+◌, ◌≤◌, ◌<◌, eqb}
+use Rattle.std.specs.Prelude.{◌≡◌, Bool, ℕ, ◌+◌, ◌≤◌, ◌<◌, eqb, Option, Some, None}
 use Rattle.std.proofs.Math.Path.{refl, ap}
 use Rattle.std.proofs.Common.{sym, ◌∙◌, le-leb, leb-true}
 use Rattle.std.proofs.Math.Bool.{true, false}
@@ -7,21 +7,15 @@ use mathlib.Core.List.{List, [], ◌∷◌}
 use Rattle.std.proofs.lemmas.Bool.{lt-leb}
 use Rattle.laws.specs.Logic.{pick, ◌or◌, false-true}
 use Rattle.units.specs.declared.Ticks.{Ticks}
-use Rattle.types.specs.declared.thread.ThreadOption.{ThreadOption}
-use Rattle.types.specs.declared.thread.ThreadOption.TheVariants.{NoThread, SomeThread}
-use Rattle.types.specs.declared.thread.TickOption.{TickOption}
-use Rattle.types.specs.declared.thread.TickOption.TheVariants.{SomeTick}
 use Rattle.types.specs.declared.thread.ThreadStatus.{ThreadStatus}
 use Rattle.types.specs.declared.thread.ThreadStatus.TheVariants.{Dead, Running, Ready, Sleeping, WaitSync, WaitArbiter, Dormant}
 use Rattle.types.specs.declared.thread.Thread.{Thread}
 use Rattle.types.specs.declared.object.KObject.{KObject}
 use Rattle.types.specs.declared.object.KObject.TheVariants as object
 use Rattle.types.specs.declared.kernel.Kernel.{Kernel}
-use Rattle.types.specs.Thread.{thread_flag, is_blocked}
+use Rattle.types.specs.Thread.{option_flag, is_blocked}
 use Rattle.sound.specs.View.{object_at, thread_at}
 use Rattle.sound.specs.Threads.{is_current}
-use Rattle.pass.specs.declared.IndexOption.{IndexOption}
-use Rattle.pass.specs.declared.IndexOption.TheVariants.{NoIndex, SomeIndex}
 use Rattle.pass.specs.declared.Fate.{Fate}
 use Rattle.pass.specs.declared.Fate.TheVariants.{Stays, Given, TimedOut, Slept}
 use Rattle.pass.specs.declared.Waits.{Waits}
@@ -66,7 +60,7 @@ time-given TimedOut e = refl
 time-given Slept e = refl
 
 -- ---- what the fate of a blocked thread tells, of its status, what its wait finds and whether it is late
-module _ (found : IndexOption) where
+module _ (found : Option ℕ) where
   late-ends : (s : ThreadStatus) → is_blocked s ≡ true → stays? (fate_as s found true) ≡ false
   late-ends Dead e = sym e
   late-ends Running e = sym e
@@ -74,9 +68,9 @@ module _ (found : IndexOption) where
   late-ends Sleeping e = refl
   late-ends WaitSync e = of found
     where
-      of : (x : IndexOption) → stays? (fate_of x true) ≡ false
-      of NoIndex = refl
-      of (SomeIndex i) = refl
+      of : (x : Option ℕ) → stays? (fate_of x true) ≡ false
+      of None = refl
+      of (Some i) = refl
   late-ends WaitArbiter e = refl
   late-ends Dormant e = sym e
 
@@ -87,17 +81,17 @@ module _ (found : IndexOption) where
   early-time Sleeping = refl
   early-time WaitSync = of found
     where
-      of : (x : IndexOption) → by_time? (fate_of x false) ≡ false
-      of NoIndex = refl
-      of (SomeIndex i) = refl
+      of : (x : Option ℕ) → by_time? (fate_of x false) ≡ false
+      of None = refl
+      of (Some i) = refl
   early-time WaitArbiter = refl
   early-time Dormant = refl
 
 -- ---- only a wait on objects is given something by a pass, and then as the demand says
-free-is : (o : ThreadOption) (w : ℕ) → free_for o w ≡ eqb (thread_flag o) 0 or is_current o w
+free-is : (o : Option ℕ) (w : ℕ) → free_for o w ≡ eqb (option_flag o) 0 or is_current o w
 unfolding ◌or◌
-free-is NoThread w = refl
-free-is (SomeThread u) w = refl
+free-is None w = refl
+free-is (Some u) w = refl
 
 signaled-is : (ts : List Thread) (x : KObject) (w : ℕ) → is_signaled ts x w ≡ satisfies? ts x w
 signaled-is ts (object.Free n) w = refl
@@ -110,9 +104,9 @@ signaled-is ts (object.AddressArbiter a) w = refl
 signaled-is ts object.Process w = refl
 signaled-is ts object.ResourceLimit w = refl
 
-abbrev found? : IndexOption → Bool
-found? NoIndex = false
-found? (SomeIndex i) = true
+abbrev found? : Option ℕ → Bool
+found? None = false
+found? (Some i) = true
 
 module _ (x : Waits) (w : ℕ) where
   abbrev test : ℕ → Bool
@@ -123,7 +117,7 @@ module _ (x : Waits) (w : ℕ) where
   all-is [] = refl
   all-is (o ∷ os) = rw (signaled-is x.threads (object_at x.objects o) w, all-is os)
 
-  first_then : (q : Bool) (i : ℕ) (y : IndexOption) (rest : Bool) → found? y ≡ rest → found? (pick q (SomeIndex i) y) ≡ q or rest
+  first_then : (q : Bool) (i : ℕ) (y : Option ℕ) (rest : Bool) → found? y ≡ rest → found? (pick q (Some i) y) ≡ q or rest
   unfolding ◌or◌
   first_then true i y rest e = refl
   first_then false i y rest e = e
@@ -138,17 +132,17 @@ module _ (x : Waits) (w : ℕ) where
   list-is : (all : Bool) (os : List ℕ) → found? (satisfied_at x.threads x.objects w all os) ≡ pick all (all_of test os) (one_of test os)
   list-is true os = go (all_signaled x.threads x.objects w os) (all-is os)
     where
-      go : (q : Bool) → q ≡ all_of test os → found? (pick q (SomeIndex 0) NoIndex) ≡ all_of test os
+      go : (q : Bool) → q ≡ all_of test os → found? (pick q (Some 0) None) ≡ all_of test os
       go true e = e
       go false e = e
   list-is false os = first-is 0 os
 
-given-found : (x : IndexOption) (late : Bool) → is_given (fate_of x late) ≡ found? x
-given-found NoIndex true = refl
-given-found NoIndex false = refl
-given-found (SomeIndex i) late = refl
+given-found : (x : Option ℕ) (late : Bool) → is_given (fate_of x late) ≡ found? x
+given-found None true = refl
+given-found None false = refl
+given-found (Some i) late = refl
 
-given-as : (s : ThreadStatus) (t : Thread) (x : Waits) (w : ℕ) (f : IndexOption) (late : Bool) → found? f ≡ list_satisfied? t x w → is_given (fate_as s f late) ≡ objects_give? s t x w
+given-as : (s : ThreadStatus) (t : Thread) (x : Waits) (w : ℕ) (f : Option ℕ) (late : Bool) → found? f ≡ list_satisfied? t x w → is_given (fate_as s f late) ≡ objects_give? s t x w
 given-as Dead t x w f late e = refl
 given-as Running t x w f late e = refl
 given-as Ready t x w f late e = refl
@@ -162,7 +156,7 @@ given-as Dormant t x w f late e = refl
 -- ---- at the turn of thread w
 module _ (k : Kernel) (tick w : ℕ) where
   -- what its wait finds
-  abbrev pub found_at : IndexOption
+  abbrev pub found_at : Option ℕ
   found_at = satisfied_at (turn k tick w).threads (turn k tick w).objects w (thread_at k.threads w).wait_all (waited_objects (thread_at k.threads w))
 
   pub fate-is : fate_at k tick w ≡ fate_as (thread_at k.threads w).status found_at (due_by (thread_at k.threads w).wakeup_at tick)
@@ -171,9 +165,9 @@ module _ (k : Kernel) (tick w : ℕ) where
       ap (λ (t : Thread). fate_as t.status (satisfied_at (turn k tick w).threads (turn k tick w).objects w t.wait_all (waited_objects t)) (due_by t.wakeup_at tick)) (turn-own k tick w)
 
   -- late: the wait ends
-  pub late-not-stays : Blocked k.threads w → (at : Ticks) → (thread_at k.threads w).wakeup_at ≡ SomeTick at → at.0 ≤ tick → stays? (fate_at k tick w) ≡ false
+  pub late-not-stays : Blocked k.threads w → (at : Ticks) → (thread_at k.threads w).wakeup_at ≡ Some at → at.0 ≤ tick → stays? (fate_at k tick w) ≡ false
   late-not-stays b at e l =
-      let d : due_by (thread_at k.threads w).wakeup_at tick ≡ true = ap (λ (o : TickOption). due_by o tick) e ∙ le-leb at.0 tick l in
+      let d : due_by (thread_at k.threads w).wakeup_at tick ≡ true = ap (λ (o : Option Ticks). due_by o tick) e ∙ le-leb at.0 tick l in
       ap stays? (fate-is ∙ ap (λ (q : Bool). fate_as (thread_at k.threads w).status found_at q) d) ∙ late-ends found_at (thread_at k.threads w).status b
 
   -- an end by time is late
@@ -184,13 +178,13 @@ module _ (k : Kernel) (tick w : ℕ) where
       go true h = refl
       go false h = sym (early-time found_at (thread_at k.threads w).status) ∙ h
 
-  pub time-from : by_time? (fate_at k tick w) ≡ true → (at : Ticks) → (thread_at k.threads w).wakeup_at ≡ SomeTick at → at.0 ≤ tick
-  time-from e at q = leb-true at.0 tick (ap (λ (o : TickOption). due_by o tick) (sym q) ∙ time-late e)
+  pub time-from : by_time? (fate_at k tick w) ≡ true → (at : Ticks) → (thread_at k.threads w).wakeup_at ≡ Some at → at.0 ≤ tick
+  time-from e at q = leb-true at.0 tick (ap (λ (o : Option Ticks). due_by o tick) (sym q) ∙ time-late e)
 
   -- early: it stays, or is given something
-  pub early-not-time : (at : Ticks) → (thread_at k.threads w).wakeup_at ≡ SomeTick at → tick < at.0 → by_time? (fate_at k tick w) ≡ false
+  pub early-not-time : (at : Ticks) → (thread_at k.threads w).wakeup_at ≡ Some at → tick < at.0 → by_time? (fate_at k tick w) ≡ false
   early-not-time at e l =
-      let d : due_by (thread_at k.threads w).wakeup_at tick ≡ false = ap (λ (o : TickOption). due_by o tick) e ∙ lt-leb at.0 tick l in
+      let d : due_by (thread_at k.threads w).wakeup_at tick ≡ false = ap (λ (o : Option Ticks). due_by o tick) e ∙ lt-leb at.0 tick l in
       ap by_time? (fate-is ∙ ap (λ (q : Bool). fate_as (thread_at k.threads w).status found_at q) d) ∙ early-time found_at (thread_at k.threads w).status
 
   -- a pass gives a thread something exactly if its objects are satisfied at its turn, in the words of the demand

@@ -1,5 +1,5 @@
 -- The only runnable thread of the least priority number is the first pick, whoever is current.
-use Rattle.std.specs.Prelude.{◌≡◌, Bool, List, [], ◌∷◌, eqb, leb, ltb}
+use Rattle.std.specs.Prelude.{◌≡◌, Bool, List, [], ◌∷◌, eqb, leb, ltb, Option, Some, None}
 use Rattle.std.proofs.Math.Path.{refl}
 use Rattle.std.proofs.Common.{ap, sym, ◌∙◌, inl, inr, arith, eqb-true, eq-eqb, leb-true, ltb-false}
 use Rattle.std.proofs.Math.Bool.{true, false}
@@ -7,8 +7,6 @@ use Prim.Native.Nat.{ℕ, zero, suc, ◌+◌, ◌≤◌, ◌<◌}
 use Rattle.std.proofs.lemmas.Bool.{lt-leb}
 use Rattle.laws.specs.Logic.{pick, and-true, true-and, false-true, pick_no}
 use Rattle.laws.specs.Count.{ind-cases}
-use Rattle.types.specs.declared.thread.ThreadOption.{ThreadOption}
-use Rattle.types.specs.declared.thread.ThreadOption.TheVariants.{NoThread, SomeThread}
 use Rattle.types.specs.declared.thread.Thread.{Thread}
 use Rattle.sound.specs.View.{thread_at}
 use Rattle.thread.specs.Threads.{least}
@@ -74,18 +72,18 @@ least_priority-ge b (t ∷ ts) p h l = least_priority-ge (better b t) ts p (bett
 
 -- ---- the first of a test that only w meets
 module _ (f : ℕ → Bool) (w : ℕ) (holds : f w ≡ true) (only : (i : ℕ) → f i ≡ true → i ≡ w) where
-  first_if : (n i : ℕ) → i ≤ w → w < i + suc n → (suc i ≤ w → first_from f n (suc i) ≡ SomeThread w) → (q : Bool) → f i ≡ q → pick q (SomeThread i) (first_from f n (suc i)) ≡ SomeThread w
-  first_if n i a b next true e = ap SomeThread (only i e)
+  first_if : (n i : ℕ) → i ≤ w → w < i + suc n → (suc i ≤ w → first_from f n (suc i) ≡ Some w) → (q : Bool) → f i ≡ q → pick q (Some i) (first_from f n (suc i)) ≡ Some w
+  first_if n i a b next true e = ap Some (only i e)
   first_if n i a b next false e = elim (ind-cases i w) [ inl h ↦ false-true (sym e ∙ ap f h.0 ∙ holds) | inr h ↦ next (omega (arith, h.0)) ]
 
-  first-only : (n i : ℕ) → i ≤ w → w < i + n → first_from f n i ≡ SomeThread w
+  first-only : (n i : ℕ) → i ≤ w → w < i + n → first_from f n i ≡ Some w
   unfolding first_from
   first-only zero i a b = absurd (omega arith)
   first-only (suc n) i a b = first_if n i a b (λ l. first-only n (suc i) l (omega arith)) (f i) refl
 
-  else_only : (a b : ThreadOption) → Meets f a → b ≡ SomeThread w → or_else a b ≡ SomeThread w
-  else_only NoThread b m e = e
-  else_only (SomeThread i) b m e = ap SomeThread (only i m)
+  else_only : (a b : Option ℕ) → Meets f a → b ≡ Some w → or_else a b ≡ Some w
+  else_only None b m e = e
+  else_only (Some i) b m e = ap Some (only i m)
 
 -- ---- the first pick
 module _ (ts : List Thread) (w : ℕ) (place : w < 32) (small : (thread_at ts w).priority ≤ 63) (h : Lowest ts ts w) where
@@ -108,23 +106,23 @@ module _ (ts : List Thread) (w : ℕ) (place : w < 32) (small : (thread_at ts w)
   runs-one : runs_at ts (best ts) w ≡ true
   runs-one = true-and (can_run ts w) (eqb (thread_at ts w).priority (best ts)) h.can (eq-eqb (thread_at ts w).priority (best ts) (sym best-is))
 
-  cyclic-one : (start : ℕ) → cyclic ts (best ts) start ≡ SomeThread w
+  cyclic-one : (start : ℕ) → cyclic ts (best ts) start ≡ Some w
   cyclic-one start =
       else_only (runs_at ts (best ts)) w runs-one only_one (first_from (runs_at ts (best ts)) 32 start) (first_from (runs_at ts (best ts)) 32 0) (meets_first (runs_at ts (best ts)) 32 start)
       (first-only (runs_at ts (best ts)) w runs-one only_one 32 0 (omega arith) (omega arith))
 
-  keeps-one : (c : ThreadOption) → keeps_core ts c (best ts) ≡ true → c ≡ SomeThread w
-  keeps-one NoThread e = false-true e
-  keeps-one (SomeThread c) e =
+  keeps-one : (c : Option ℕ) → keeps_core ts c (best ts) ≡ true → c ≡ Some w
+  keeps-one None e = false-true e
+  keeps-one (Some c) e =
       elim (ind-cases c w) [
-        | inl q ↦ ap SomeThread q.0
+        | inl q ↦ ap Some q.0
         | inr q ↦ absurd (omega (arith, best-is, leb-true (thread_at ts c).priority (best ts) (and-true _ _ e).1, h.below c (running_runs (thread_at ts c).status (and-true _ _ e).0) q.0))
       ]
 
-  pub lowest-picked : (c : ThreadOption) → pick_next ts c ≡ SomeThread w
+  pub lowest-picked : (c : Option ℕ) → pick_next ts c ≡ Some w
   unfolding pick_next
-  lowest-picked c = pick_no (leb 64 (best ts)) NoThread _ (lt-leb 64 (best ts) (omega (arith, best-is))) ∙ go (keeps_core ts c (best ts)) refl
+  lowest-picked c = pick_no (leb 64 (best ts)) None _ (lt-leb 64 (best ts) (omega (arith, best-is))) ∙ go (keeps_core ts c (best ts)) refl
     where
-      go : (q : Bool) → keeps_core ts c (best ts) ≡ q → pick q c (cyclic ts (best ts) (start_after c)) ≡ SomeThread w
+      go : (q : Bool) → keeps_core ts c (best ts) ≡ q → pick q c (cyclic ts (best ts) (start_after c)) ≡ Some w
       go true e = keeps-one c e
       go false e = cyclic-one (start_after c)

@@ -1,11 +1,9 @@
 -- What the changes outside a pass do to the wait of a thread: only its own end and its own parking touch it.
-use Rattle.std.specs.Prelude.{◌≡◌, refl, Bool, List, ◌≢◌, ℕ, ◌<◌, length, set}
+use Rattle.units.specs.declared.Ticks.{Ticks}
+use Rattle.std.specs.Prelude.{◌≡◌, refl, Bool, List, ◌≢◌, ℕ, ◌<◌, length, set, Option, Some, None}
 use Rattle.std.proofs.Common.{ap, sym, ◌∙◌, arith, length-set}
 use Rattle.laws.specs.Logic.{false-true}
 use Rattle.units.specs.declared.ObjectId.{ObjectId}
-use Rattle.types.specs.declared.thread.TickOption.{TickOption}
-use Rattle.types.specs.declared.thread.ThreadOption.{ThreadOption}
-use Rattle.types.specs.declared.thread.ThreadOption.TheVariants.{NoThread, SomeThread}
 use Rattle.types.specs.declared.thread.ThreadStatus.TheVariants.{Dead}
 use Rattle.types.specs.declared.thread.Thread.{Thread}
 use Rattle.types.specs.declared.kernel.Kernel.{Kernel}
@@ -48,20 +46,20 @@ unfolding set_priority
 priority-wait k t p w = thread-f wait_of k.threads t _ w refl
 
 -- ---- the current thread parks: another one is left
-begin_as : (c : ThreadOption) (k : Kernel) (l : List ObjectId) (n : ℕ) (all : Bool) (timeout : TickOption) (tick w : ℕ) → c ≢ SomeThread w
+begin_as : (c : Option ℕ) (k : Kernel) (l : List ObjectId) (n : ℕ) (all : Bool) (timeout : Option Ticks) (tick w : ℕ) → c ≢ Some w
     → thread_at (begin_wait_as c k l n all timeout tick).threads w ≡ thread_at k.threads w
-begin_as NoThread k l n all timeout tick w h = refl
-begin_as (SomeThread c) k l n all timeout tick w h = thread-other k.threads c w _ (λ e. h (ap SomeThread (sym e)))
+begin_as None k l n all timeout tick w h = refl
+begin_as (Some c) k l n all timeout tick w h = thread-other k.threads c w _ (λ e. h (ap Some (sym e)))
 
-pub begin-other : (k : Kernel) (l : List ObjectId) (n : ℕ) (all : Bool) (timeout : TickOption) (tick w : ℕ) → k.current_thread ≢ SomeThread w
+pub begin-other : (k : Kernel) (l : List ObjectId) (n : ℕ) (all : Bool) (timeout : Option Ticks) (tick w : ℕ) → k.current_thread ≢ Some w
     → thread_at (begin_wait k l n all timeout tick).threads w ≡ thread_at k.threads w
 unfolding begin_wait
 begin-other k l n all timeout tick w h = begin_as k.current_thread k l n all timeout tick w h
 
-sleep-as : (c : ThreadOption) (k : Kernel) (ticks tick w : ℕ) → c ≢ SomeThread w → thread_at (sleep_as c k ticks tick).threads w ≡ thread_at k.threads w
-sleep-as NoThread k ticks tick w h = refl
-sleep-as (SomeThread c) k ticks tick w h = thread-other k.threads c w _ (λ e. h (ap SomeThread (sym e)))
+sleep-as : (c : Option ℕ) (k : Kernel) (ticks tick w : ℕ) → c ≢ Some w → thread_at (sleep_as c k ticks tick).threads w ≡ thread_at k.threads w
+sleep-as None k ticks tick w h = refl
+sleep-as (Some c) k ticks tick w h = thread-other k.threads c w _ (λ e. h (ap Some (sym e)))
 
-pub sleep-other : (k : Kernel) (ticks tick w : ℕ) → k.current_thread ≢ SomeThread w → thread_at (sleep_current k ticks tick).threads w ≡ thread_at k.threads w
+pub sleep-other : (k : Kernel) (ticks tick w : ℕ) → k.current_thread ≢ Some w → thread_at (sleep_current k ticks tick).threads w ≡ thread_at k.threads w
 unfolding sleep_current
 sleep-other k ticks tick w h = sleep-as k.current_thread k ticks tick w h

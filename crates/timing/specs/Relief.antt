@@ -1,9 +1,7 @@
 -- The relief flag is a pass's own: nothing else touches it.
-use Rattle.std.specs.Prelude.{◌≡◌, refl, Bool, List, ℕ}
+use Rattle.units.specs.declared.Ticks.{Ticks}
+use Rattle.std.specs.Prelude.{◌≡◌, refl, Bool, List, ℕ, Option, Some, None}
 use Rattle.units.specs.declared.ObjectId.{ObjectId}
-use Rattle.types.specs.declared.thread.TickOption.{TickOption}
-use Rattle.types.specs.declared.thread.ThreadOption.{ThreadOption}
-use Rattle.types.specs.declared.thread.ThreadOption.TheVariants.{NoThread, SomeThread}
 use Rattle.types.specs.declared.kernel.Kernel.{Kernel}
 use Rattle.thread.specs.Threads.{create_thread, set_priority, end_wait, end_thread}
 use Rattle.pass.specs.Waits.{begin_wait_as, begin_wait, sleep_as, sleep_current}
@@ -20,17 +18,17 @@ pub priority-relief : (k : Kernel) (t p : ℕ) → (set_priority k t p).relief �
 unfolding set_priority
 priority-relief k t p = refl
 
-begin-flag : (c : ThreadOption) (k : Kernel) (os : List ObjectId) (n : ℕ) (all : Bool) (timeout : TickOption) (tick : ℕ) → (begin_wait_as c k os n all timeout tick).relief ≡ k.relief
-begin-flag NoThread k os n all timeout tick = refl
-begin-flag (SomeThread c) k os n all timeout tick = refl
+begin-flag : (c : Option ℕ) (k : Kernel) (os : List ObjectId) (n : ℕ) (all : Bool) (timeout : Option Ticks) (tick : ℕ) → (begin_wait_as c k os n all timeout tick).relief ≡ k.relief
+begin-flag None k os n all timeout tick = refl
+begin-flag (Some c) k os n all timeout tick = refl
 
-pub begin-relief : (k : Kernel) (os : List ObjectId) (n : ℕ) (all : Bool) (timeout : TickOption) (tick : ℕ) → (begin_wait k os n all timeout tick).relief ≡ k.relief
+pub begin-relief : (k : Kernel) (os : List ObjectId) (n : ℕ) (all : Bool) (timeout : Option Ticks) (tick : ℕ) → (begin_wait k os n all timeout tick).relief ≡ k.relief
 unfolding begin_wait
 begin-relief k os n all timeout tick = begin-flag k.current_thread k os n all timeout tick
 
-sleep-flag : (c : ThreadOption) (k : Kernel) (ticks tick : ℕ) → (sleep_as c k ticks tick).relief ≡ k.relief
-sleep-flag NoThread k ticks tick = refl
-sleep-flag (SomeThread c) k ticks tick = refl
+sleep-flag : (c : Option ℕ) (k : Kernel) (ticks tick : ℕ) → (sleep_as c k ticks tick).relief ≡ k.relief
+sleep-flag None k ticks tick = refl
+sleep-flag (Some c) k ticks tick = refl
 
 pub sleep-relief : (k : Kernel) (ticks tick : ℕ) → (sleep_current k ticks tick).relief ≡ k.relief
 unfolding sleep_current

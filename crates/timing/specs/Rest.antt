@@ -1,11 +1,9 @@
 -- The choice of a pass changes who is Running and since when, and nothing else of any thread.
-use Rattle.std.specs.Prelude.{◌≡◌, refl, Bool, true, false, List, ℕ, eqb}
+use Rattle.std.specs.Prelude.{◌≡◌, refl, Bool, true, false, List, ℕ, eqb, Option, Some, None}
 use Rattle.std.proofs.Common.{ap, sym, ◌∙◌}
 use Rattle.laws.specs.Logic.{pick, false-true}
 use Rattle.types.specs.declared.thread.ThreadStatus.{ThreadStatus}
 use Rattle.types.specs.declared.thread.ThreadStatus.TheVariants.{Dead, Running, Ready, Sleeping, WaitSync, WaitArbiter, Dormant}
-use Rattle.types.specs.declared.thread.ThreadOption.{ThreadOption}
-use Rattle.types.specs.declared.thread.ThreadOption.TheVariants.{NoThread, SomeThread}
 use Rattle.types.specs.declared.thread.Thread.{Thread}
 use Rattle.types.specs.declared.object.ObjectStore.{ObjectStore}
 use Rattle.types.specs.declared.kernel.Kernel.{Kernel}
@@ -77,14 +75,14 @@ module _ (x y : Thread) (e : at_rest y ≡ at_rest x) where
       ap (λ (s : ThreadStatus). wait_of (with_status y s)) (sym (off_same y.status (rest-runs ∙ n))) ∙ w ∙ ap (λ (s : ThreadStatus). wait_of (with_status x s)) (off_same x.status n)
 
 -- ---- each part of the choice
-pub mark_rest : (ts : List Thread) (c : ThreadOption) (i : ℕ) → at_rest (thread_at (mark_waited ts c) i) ≡ at_rest (thread_at ts i)
-mark_rest ts NoThread i = refl
-mark_rest ts (SomeThread c) i =
+pub mark_rest : (ts : List Thread) (c : Option ℕ) (i : ℕ) → at_rest (thread_at (mark_waited ts c) i) ≡ at_rest (thread_at ts i)
+mark_rest ts None i = refl
+mark_rest ts (Some c) i =
     pick-both (λ (l : List Thread). at_rest (thread_at l i) ≡ at_rest (thread_at ts i)) (is_runnable (thread_at ts c).status) ts _ refl (thread-f at_rest ts c _ i refl)
 
-begin-rest : (ts : List Thread) (c : ThreadOption) (tick i : ℕ) → at_rest (thread_at (begin_run ts c tick) i) ≡ at_rest (thread_at ts i)
-begin-rest ts NoThread tick i = refl
-begin-rest ts (SomeThread c) tick i =
+begin-rest : (ts : List Thread) (c : Option ℕ) (tick i : ℕ) → at_rest (thread_at (begin_run ts c tick) i) ≡ at_rest (thread_at ts i)
+begin-rest ts None tick i = refl
+begin-rest ts (Some c) tick i =
     thread-f at_rest ts c (begun (thread_at ts c) tick) i (pick-both (λ (x : Thread). at_rest x ≡ at_rest (thread_at ts c)) (thread_at ts c).waited (with_run (thread_at ts c) false tick) (thread_at ts c) refl refl)
 
 status-rest : (t : Thread) (s : ThreadStatus) → off_core s ≡ off_core t.status → at_rest (with_status t s) ≡ at_rest t
@@ -106,33 +104,33 @@ left-rest t = go (is_running t.status) refl
     go true e = status-rest t Ready (sym (running_off t.status e))
     go false e = refl
 
-leave_rest : (ts : List Thread) (c : ThreadOption) (i : ℕ) → at_rest (thread_at (leave_core ts c) i) ≡ at_rest (thread_at ts i)
-leave_rest ts NoThread i = refl
-leave_rest ts (SomeThread c) i = thread-f at_rest ts c (leaves (thread_at ts c)) i (left-rest (thread_at ts c))
+leave_rest : (ts : List Thread) (c : Option ℕ) (i : ℕ) → at_rest (thread_at (leave_core ts c) i) ≡ at_rest (thread_at ts i)
+leave_rest ts None i = refl
+leave_rest ts (Some c) i = thread-f at_rest ts c (leaves (thread_at ts c)) i (left-rest (thread_at ts c))
 
 take_rest : (ts : List Thread) (n i : ℕ) → can_run ts n ≡ true → at_rest (thread_at (take_core ts n) i) ≡ at_rest (thread_at ts i)
 take_rest ts n i h = thread-f at_rest ts n (with_status (thread_at ts n) Running) i (status-rest (thread_at ts n) Running (sym (runs_off (thread_at ts n).status h)))
 
 -- ---- the switch to a thread that can run
-switch_rest : (k : Kernel) (s : ObjectStore) (ts : List Thread) (relief : Bool) (c next : ThreadOption) → Runs ts next → (i : ℕ)
+switch_rest : (k : Kernel) (s : ObjectStore) (ts : List Thread) (relief : Bool) (c next : Option ℕ) → Runs ts next → (i : ℕ)
     → at_rest (thread_at (switch_as k s ts relief c next).kernel.threads i) ≡ at_rest (thread_at ts i)
-switch_rest k s ts relief NoThread NoThread h i = refl
-switch_rest k s ts relief (SomeThread c) NoThread h i = leave_rest ts (SomeThread c) i
-switch_rest k s ts relief NoThread (SomeThread n) h i = take_rest ts n i h
-switch_rest k s ts relief (SomeThread c) (SomeThread n) h i =
+switch_rest k s ts relief None None h i = refl
+switch_rest k s ts relief (Some c) None h i = leave_rest ts (Some c) i
+switch_rest k s ts relief None (Some n) h i = take_rest ts n i h
+switch_rest k s ts relief (Some c) (Some n) h i =
     pick-both (λ (x : Passed). at_rest (thread_at x.kernel.threads i) ≡ at_rest (thread_at ts i)) (eqb c n) _ _ (take_rest ts n i h)
-    (take_rest (leave_core ts (SomeThread c)) n i (leave_runs ts (SomeThread c) (SomeThread n) h) ∙ leave_rest ts (SomeThread c) i)
+    (take_rest (leave_core ts (Some c)) n i (leave_runs ts (Some c) (Some n) h) ∙ leave_rest ts (Some c) i)
 
 -- ---- the choice
 pub choose-rest : (k : Kernel) (x : Waits) (tick i : ℕ) → at_rest (thread_at (choose k x tick).kernel.threads i) ≡ at_rest (thread_at x.threads i)
 choose-rest k x tick i =
-    let c : ThreadOption = k.current_thread in
+    let c : (Option ℕ) = k.current_thread in
     let ts : List Thread = mark_waited x.threads c in
-    let first : ThreadOption = pick_next ts c in
+    let first : (Option ℕ) = pick_next ts c in
     let first_runs : Runs ts first = pick_next-runs ts c in
     let begun : List Thread = begin_run ts first tick in
     let starve : Bool = starving begun first tick in
-    let next : ThreadOption = chosen begun first starve k.relief in
+    let next : (Option ℕ) = chosen begun first starve k.relief in
     let next-runs : Runs begun next = chosen-runs begun first starve k.relief (begin-runs ts first tick first first_runs) in
     switch_rest k x.objects (begin_run begun next tick) (flipped starve k.relief) c next (begin-runs begun next tick next next-runs) i
     ∙ begin-rest begun next tick i

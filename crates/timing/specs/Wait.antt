@@ -1,10 +1,9 @@
 -- What of a thread its wait is, so that "its wait is as it was" is one equation.
-use Rattle.std.specs.Prelude.{◌≡◌, refl, Bool, true, false, List, ℕ, ◌<◌, length}
+use Rattle.units.specs.declared.Ticks.{Ticks}
+use Rattle.std.specs.Prelude.{◌≡◌, refl, Bool, true, false, List, ℕ, ◌<◌, length, Option}
 use Rattle.std.proofs.Common.{sym}
 use Rattle.laws.specs.Logic.{false-true}
 use Rattle.units.specs.declared.ObjectId.{ObjectId}
-use Rattle.types.specs.declared.thread.TickOption.{TickOption}
-use Rattle.types.specs.declared.thread.AddressOption.{AddressOption}
 use Rattle.types.specs.declared.thread.ThreadStatus.{ThreadStatus}
 use Rattle.types.specs.declared.thread.ThreadStatus.TheVariants.{Dead, Running, Ready, Sleeping, WaitSync, WaitArbiter, Dormant}
 use Rattle.types.specs.declared.thread.Thread.{Thread}
@@ -18,8 +17,8 @@ pub record Wait : Type 0 where
   pub objects : List ObjectId
   pub count : ℕ
   pub all : Bool
-  pub wake : TickOption
-  pub address : AddressOption
+  pub wake : Option Ticks
+  pub address : Option ℕ
 
 abbrev pub wait_of : Thread → Wait
 wait_of t = record { status = t.status; objects = t.wait_objects; count = t.wait_count; all = t.wait_all; wake = t.wakeup_at; address = t.wait_address }

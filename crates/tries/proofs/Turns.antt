@@ -1,4 +1,6 @@
 -- The turn of a thread in a pass, in a sound block. Assumes nothing.
+use Rattle.std.specs.Prelude.{Option, ◌⊎◌}
+use Rattle.std.proofs.Common.{inl, inr}
 use mathlib.Core.Path.{◌≡◌, refl, sym, ap, subst, ◌∙◌}
 use mathlib.Core.Bool.{Bool, true, false, true≢false}
 use mathlib.Core.List.{List, [], ◌∷◌}
@@ -22,7 +24,6 @@ use Rattle.thread.specs.Threads.{with_threads}
 use Rattle.rows.specs.Rows.{thread_put}
 use Rattle.rows.specs.Holds.{Holds, put-thread}
 use Rattle.release.specs.Encoded.{Encoded, encoded-holds, held-sound}
-use Rattle.pass.specs.declared.IndexOption.{IndexOption}
 use Rattle.pass.specs.declared.Fate.{Fate}
 use Rattle.pass.specs.declared.Fate.TheVariants.{Stays, Given, TimedOut, Slept}
 use Rattle.pass.specs.declared.Waits.{Waits}
@@ -44,6 +45,12 @@ with k s = with_threads k k.threads s
 pub none_over : (b : List ℕ) → false ≡ (dec_block b).objects.overflow
 unfolding dec_block
 none_over b = refl
+
+-- a try that gives no object takes none
+pub took-same : (f : Fate) → (f ≡ Stays) ⊎ ((f ≡ TimedOut) ⊎ (f ≡ Slept)) → (s : ObjectStore) (t : Thread) (w : ℕ) → took f s t w ≡ s
+took-same f (inl e) s t w = rw e
+took-same f (inr (inl e)) s t w = rw e
+took-same f (inr (inr e)) s t w = rw e
 
 -- one object taken
 pub one-taken : (b : List ℕ) (o w : ℕ) → acquire_over (object_at (dec_block b).objects o) ≡ (acquires (dec_block b).objects (o ∷ []) w).overflow
@@ -77,7 +84,7 @@ module _ (b : List ℕ) (s : sound? b ≡ true) (tick i : ℕ) where
   fate_of = fate k.threads k.objects tick i
 
   -- as it is told from the thread t and the index that its wait gives
-  pub fate-is : (t : Thread) → t ≡ old → (found : IndexOption) → found ≡ satisfied_at k.threads k.objects i t.wait_all (take t.wait_count (ids t.wait_objects))
+  pub fate-is : (t : Thread) → t ≡ old → (found : Option ℕ) → found ≡ satisfied_at k.threads k.objects i t.wait_all (take t.wait_count (ids t.wait_objects))
       → fate_as t.status found (due_by t.wakeup_at tick) ≡ fate_of
   unfolding fate
   fate-is t e found f = rw (f, e)

@@ -1,6 +1,5 @@
 -- A try by its parts: what the thread takes, and what becomes of it.
-use Rattle.std.specs.Prelude.{◌≡◌, refl, Bool, true, false, ℕ}
-use Rattle.laws.specs.Logic.{pick}
+use Rattle.std.specs.Prelude.{Bool, true, false, ℕ, Option, Some}
 use Rattle.types.specs.declared.thread.ThreadStatus.TheVariants.{Ready}
 use Rattle.types.specs.declared.thread.WaitResult.{WaitResult}
 use Rattle.types.specs.declared.thread.WaitResult.TheVariants.{Signaled}
@@ -9,38 +8,20 @@ use Rattle.types.specs.declared.thread.Thread.{Thread}
 use Rattle.types.specs.declared.object.ObjectStore.{ObjectStore}
 use Rattle.types.specs.declared.kernel.Kernel.{Kernel}
 use Rattle.thread.specs.Thread.{clear_wait, with_status, with_result}
-use Rattle.pass.specs.declared.IndexOption.{IndexOption}
-use Rattle.pass.specs.declared.IndexOption.TheVariants.{NoIndex, SomeIndex}
 use Rattle.pass.specs.declared.Fate.{Fate}
 use Rattle.pass.specs.declared.Fate.TheVariants.{Stays, Given, TimedOut, Slept}
 use Rattle.pass.specs.declared.Waits.{Waits}
 use Rattle.pass.specs.Signal.{acquires}
-use Rattle.pass.specs.Waits.{fate_of, taken}
-
--- ---- satisfaction before time-out
-abbrev pub given_as : IndexOption → Fate
-given_as NoIndex = Stays
-given_as (SomeIndex i) = Given i
-
--- the first of two that is not to stay
-abbrev pub or_fate : Fate → Fate → Fate
-or_fate Stays g = g
-or_fate (Given i) g = Given i
-or_fate TimedOut g = TimedOut
-or_fate Slept g = Slept
-
-pub sync_is : (found : IndexOption) (late : Bool) → or_fate (given_as found) (pick late TimedOut Stays) ≡ fate_of found late
-sync_is NoIndex late = refl
-sync_is (SomeIndex i) late = refl
+use Rattle.pass.specs.Waits.{taken}
 
 -- ---- the thread
-abbrev pub awakened : Thread → WaitResult → Thread
+abbrev pub awakened : Thread → Option WaitResult → Thread
 awakened t r = with_status (with_result (clear_wait t) r t.wait_syscall) Ready
 
 abbrev pub after : Fate → Thread → Thread
 after Stays t = t
-after (Given i) t = awakened t (Signaled i)
-after TimedOut t = awakened t result.TimedOut
+after (Given i) t = awakened t (Some (Signaled i))
+after TimedOut t = awakened t (Some result.TimedOut)
 after Slept t = awakened t t.wait_result
 
 -- whether the wait is over

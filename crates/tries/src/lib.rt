@@ -1,11 +1,13 @@
-// What a pass does before it chooses (`fire_timers`, `try_satisfy_wait` for each thread by number, the end of pulses), in the
-// block where it lies.
+// What a pass does before it chooses (`fire_timers`, `try_satisfy_wait` for each thread by number, the end of pulses),
+// in the block where it lies.
 #![tactic(auto)]
 
 mod fate;
 mod slots;
 
-ghost use Rattle.std.specs.Prelude.{◌≡◌, true, false, ◌+◌, ◌<◌, length, get_or};
+ghost use Rattle.std.specs.Prelude.{◌≡◌, true, ◌<◌, get_or, Ok};
+ghost use Rattle.laws.specs.Logic.{pick};
+ghost use Rattle.types.specs.Refusal.{unless_found};
 ghost use Rattle.block.specs.Block.{dec_block};
 ghost use Rattle.sound.specs.View.{ids};
 ghost use Rattle.sound.specs.Objects.{Live};
@@ -17,27 +19,23 @@ ghost use Rattle.pass.specs.Schedule as pass;
 ghost use Rattle.passing.specs.Awake.{during};
 ghost use Rattle.tries.specs.Tries.{awakened, after, is_over, took, waits_of};
 
+use block::Block;
 use pass::Fate;
-use release::release_list;
+use release::{first_of, release_list};
 use rows::{read, write};
-use types::thread::{Thread, ThreadStatus, WAIT_COUNT, WAIT_LIST, WaitResult};
+use types::refusal::Refusal;
+use types::thread::{Thread, ThreadStatus, WAIT_LIST, WaitResult};
 use units::{ObjectId, Ticks};
 
 // A Ready thread whose wait is over, with the result r.
-fn woken(t: Thread, r: WaitResult) -> Thread
+fn woken(t: Thread, r: Option<WaitResult>) -> Thread
     ensures { result ≡ awakened t r }
 {
-    let call = t.wait_syscall;
-    let c = thread::thread::without_wait(t);
-    let d = thread::thread::with_result(c, r, call);
-    thread::thread::with_status(d, ThreadStatus::Ready)
-}
-
-fn slept(t: Thread) -> Thread
-    ensures { result ≡ after Fate.Slept t }
-{
-    let r = t.wait_result;
-    woken(t, r)
+    let over = thread::thread::with_result(thread::thread::without_wait(t), r, t.wait_syscall);
+    Thread {
+        status: ThreadStatus::Ready,
+        ..over
+    }
 }
 
 // The thread after its try.
@@ -46,112 +44,88 @@ fn tried(f: Fate, t: Thread) -> Thread
 {
     match f {
         Fate::Stays => t,
-        Fate::Given(i) => woken(t, WaitResult::Signaled(i)),
-        Fate::TimedOut => woken(t, WaitResult::TimedOut),
-        Fate::Slept => slept(t),
+        Fate::Given(i) => woken(t, Some(WaitResult::Signaled(i))),
+        Fate::TimedOut => woken(t, Some(WaitResult::TimedOut)),
+        Fate::Slept => woken(t, t.wait_result),
     }
 }
 
 fn is_over(f: Fate) -> bool
     ensures { result ≡ is_over f }
 {
-    match f {
-        Fate::Stays => false,
-        Fate::Given(_i) => true,
-        Fate::TimedOut => true,
-        Fate::Slept => true,
-    }
+    !matches!(f, Fate::Stays)
 }
 
 // The object at a place of a list, none past its end.
 fn object_at(l: [ObjectId; WAIT_LIST], i: u32) -> ObjectId
     ensures { result.0 ≡ get_or (ids l) i 0 }
 {
-    if WAIT_COUNT <= i {
-        return ObjectId(0);
-    }
-    l[i as usize]
+    l.get(i as usize).copied().unwrap_or(ObjectId(0))
 }
 
-// A wait for all takes every object, one for any the one at the index. True if a count does not fit any more. The
+// A wait for all takes every object, one for any the one at the index. Refused if a count does not fit any more. The
 // block is left open then, as by `take_list`.
-fn take_given(block: &mut [u8], t: Thread, i: u32, w: u32) -> bool
-    requires block_len { length block.old ≡ 16384 }
+fn take_given(block: &mut Block, t: Thread, i: u32, w: u32) -> Result<(), Refusal>
     requires block_value { sound? block.old ≡ true }
     requires live { Live (dec_block block.old).threads w }
-    ensures value { result ≡ (acquires (dec_block block.old).objects (def.taken t i) w).overflow }
-    ensures block_after { (result ≡ false) → dec_block block.new ≡ with_threads (dec_block block.old) (dec_block block.old).threads (acquires (dec_block block.old).objects (def.taken t i) w) }
+    ensures value { result ≡ unless_found (pick (acquires (dec_block block.old).objects (def.taken t i) w).overflow 8 0) tt }
+    ensures block_after { (result ≡ Ok tt) → dec_block block.new ≡ with_threads (dec_block block.old) (dec_block block.old).threads (acquires (dec_block block.old).objects (def.taken t i) w) }
     ensures block_after_2 { sound? block.new ≡ true }
 {
-    let list = t.wait_objects;
     if t.wait_all {
-        return take::take_list(block, list, t.wait_count, w);
+        return take::take_list(block, first_of(&t.wait_objects, t.wait_count), w);
     }
-    let o = object_at(list, i);
-    take::take(block, o, w)
+    take::take(block, object_at(t.wait_objects, i), w)
 }
 
-// True if a count does not fit any more. The block is left open then, as by `take_list`.
-fn take_for(block: &mut [u8], f: Fate, t: Thread, w: u32) -> bool
-    requires block_len { length block.old ≡ 16384 }
+// Refused if a count does not fit any more. The block is left open then, as by `take_list`.
+fn take_for(block: &mut Block, f: Fate, t: Thread, w: u32) -> Result<(), Refusal>
     requires block_value { sound? block.old ≡ true }
     requires live { Live (dec_block block.old).threads w }
-    ensures value { result ≡ (took f (dec_block block.old).objects t w).overflow }
-    ensures block_after { (result ≡ false) → dec_block block.new ≡ with_threads (dec_block block.old) (dec_block block.old).threads (took f (dec_block block.old).objects t w) }
+    ensures value { result ≡ unless_found (pick (took f (dec_block block.old).objects t w).overflow 8 0) tt }
+    ensures block_after { (result ≡ Ok tt) → dec_block block.new ≡ with_threads (dec_block block.old) (dec_block block.old).threads (took f (dec_block block.old).objects t w) }
     ensures block_after_2 { sound? block.new ≡ true }
 {
     match f {
-        Fate::Stays => false,
         Fate::Given(i) => take_given(block, t, i, w),
-        Fate::TimedOut => false,
-        Fate::Slept => false,
+        Fate::Stays | Fate::TimedOut | Fate::Slept => Ok(()),
     }
 }
 
-// The turn of thread i. True if a count does not fit any more; part of the turn is done then. The block is left
+// The turn of thread i. Refused if a count does not fit any more; part of the turn is done then. The block is left
 // open, since the pass refuses and puts back a copy.
-fn try_wait(block: &mut [u8], i: u32, tick: Ticks) -> bool
-    requires block_len { length block.old ≡ 16384 }
+fn try_wait(block: &mut Block, i: u32, tick: Ticks) -> Result<(), Refusal>
     requires block_value { sound? block.old ≡ true }
     requires i_bound { i < 32 }
-    ensures value { result ≡ (def.try_wait tick.0 (waits_of (dec_block block.old)) i).objects.overflow }
-    ensures block_after { (result ≡ false) → dec_block block.new ≡ during (dec_block block.old) (def.try_wait tick.0 (waits_of (dec_block block.old)) i) }
-    ensures block_after_2 { (result ≡ false) → sound? block.new ≡ true }
+    ensures value { result ≡ unless_found (pick (def.try_wait tick.0 (waits_of (dec_block block.old)) i).objects.overflow 8 0) tt }
+    ensures block_after { (result ≡ Ok tt) → dec_block block.new ≡ during (dec_block block.old) (def.try_wait tick.0 (waits_of (dec_block block.old)) i) }
+    ensures block_after_2 { (result ≡ Ok tt) → sound? block.new ≡ true }
 {
     let t = read::thread_at(block, i);
-    let list = t.wait_objects;
-    let found = wait::satisfied_at(block, i, t.wait_all, list, t.wait_count);
+    let list = first_of(&t.wait_objects, t.wait_count);
+    let found = wait::satisfied_at(block, i, t.wait_all, list);
     let f = fate::fate_of(t, found, tick);
     if !is_over(f) {
-        return false;
+        return Ok(());
     }
-    if take_for(block, f, t, i) {
-        return true;
-    }
-    release_list(block, list, t.wait_count);
+    take_for(block, f, t, i)?;
+    release_list(block, list);
     write::put_thread(block, i, tried(f, t));
-    false
+    Ok(())
 }
 
-// True if a count does not fit any more, with part of it done. The block is left open then: the pass refuses and puts back
-// its copy.
-pub fn try_waits(block: &mut [u8], tick: Ticks) -> bool
-    requires block_len { length block.old ≡ 16384 }
+// Refused if a count does not fit any more, with part of it done. The block is left open then: the pass refuses and
+// puts back its copy.
+pub fn try_waits(block: &mut Block, tick: Ticks) -> Result<(), Refusal>
     requires block_value { sound? block.old ≡ true }
-    ensures value { result ≡ (pass.tried (dec_block block.old) tick.0).objects.overflow }
-    ensures block_after { (result ≡ false) → dec_block block.new ≡ during (dec_block block.old) (pass.tried (dec_block block.old) tick.0) }
-    ensures block_after_2 { (result ≡ false) → sound? block.new ≡ true }
+    ensures value { result ≡ unless_found (pick (pass.tried (dec_block block.old) tick.0).objects.overflow 8 0) tt }
+    ensures block_after { (result ≡ Ok tt) → dec_block block.new ≡ during (dec_block block.old) (pass.tried (dec_block block.old) tick.0) }
+    ensures block_after_2 { (result ≡ Ok tt) → sound? block.new ≡ true }
 {
-    if slots::fire(block, tick) {
-        return true;
-    }
-    let mut i: u32 = 0;
-    while i < 32 {
-        if try_wait(block, i, tick) {
-            return true;
-        }
-        i += 1;
+    slots::fire(block, tick)?;
+    for i in 0..32 {
+        try_wait(block, i, tick)?;
     }
     slots::clear_pulses(block);
-    false
+    Ok(())
 }

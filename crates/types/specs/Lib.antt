@@ -3,3 +3,4 @@ pub mod Thread
 pub mod Sync
 pub mod Object
 pub mod Tests
+pub mod Refusal

@@ -2,12 +2,7 @@
 use Rattle.std.specs.Prelude.{Bool, true, false, ◌≡◌, refl, eqb}
 use Rattle.types.specs.declared.object.KObject.{KObject}
 use Rattle.types.specs.declared.object.KObject.TheVariants.{Free, Thread, Event, Mutex, Semaphore, Timer, AddressArbiter, Process, ResourceLimit}
-use Rattle.types.specs.declared.thread.WaitResult.{WaitResult}
-use Rattle.types.specs.declared.thread.WaitResult.TheVariants.{NoResult, Signaled, TimedOut}
-use Rattle.types.specs.declared.thread.WaitSyscall.{WaitSyscall}
-use Rattle.types.specs.declared.thread.WaitSyscall.TheVariants.{NoSyscall, WaitSynchronization1, WaitSynchronizationN, ArbitrateAddress, SleepThread}
 use Rattle.types.specs.Object.{kind_number}
-use Rattle.types.specs.Thread.{result_number, syscall_number}
 
 -- a dead slot
 abbrev pub free? : KObject → Bool
@@ -77,29 +72,3 @@ timer_number (Timer t) = refl
 timer_number (AddressArbiter a) = refl
 timer_number Process = refl
 timer_number ResourceLimit = refl
-
--- no recorded result
-abbrev pub no_result? : WaitResult → Bool
-no_result? NoResult = true
-no_result? (Signaled i) = false
-no_result? TimedOut = false
-
-pub no-result-number : (r : WaitResult) → no_result? r ≡ eqb (result_number r) 0
-no-result-number NoResult = refl
-no-result-number (Signaled i) = refl
-no-result-number TimedOut = refl
-
--- no recorded call
-abbrev pub no_syscall? : WaitSyscall → Bool
-no_syscall? NoSyscall = true
-no_syscall? WaitSynchronization1 = false
-no_syscall? WaitSynchronizationN = false
-no_syscall? ArbitrateAddress = false
-no_syscall? SleepThread = false
-
-pub no_syscall_number : (s : WaitSyscall) → no_syscall? s ≡ eqb (syscall_number s) 0
-no_syscall_number NoSyscall = refl
-no_syscall_number WaitSynchronization1 = refl
-no_syscall_number WaitSynchronizationN = refl
-no_syscall_number ArbitrateAddress = refl
-no_syscall_number SleepThread = refl

@@ -1,55 +1,36 @@
 -- Numbers of the enums of thread.rs, and what a status says.
-use Rattle.std.specs.Prelude.{Bool, true, false, cond, ℕ, eqb}
-use Rattle.types.specs.declared.thread.ThreadOption.{ThreadOption}
-use Rattle.types.specs.declared.thread.ThreadOption.TheVariants.{NoThread, SomeThread}
-use Rattle.types.specs.declared.thread.TickOption.{TickOption}
-use Rattle.types.specs.declared.thread.TickOption.TheVariants.{NoTick, SomeTick}
-use Rattle.types.specs.declared.thread.AddressOption.{AddressOption}
-use Rattle.types.specs.declared.thread.AddressOption.TheVariants.{NoAddress, SomeAddress}
+use Rattle.units.specs.declared.Ticks.{Ticks}
+use Rattle.std.specs.Prelude.{Bool, true, false, cond, ℕ, eqb, Option, Some, None}
 use Rattle.types.specs.declared.thread.ThreadStatus.{ThreadStatus}
 use Rattle.types.specs.declared.thread.ThreadStatus.TheVariants.{Dead, Running, Ready, Sleeping, WaitSync, WaitArbiter, Dormant}
 use Rattle.types.specs.declared.thread.WaitResult.{WaitResult}
-use Rattle.types.specs.declared.thread.WaitResult.TheVariants.{NoResult, Signaled, TimedOut}
+use Rattle.types.specs.declared.thread.WaitResult.TheVariants.{Signaled, TimedOut}
 use Rattle.types.specs.declared.thread.WaitSyscall.{WaitSyscall}
-use Rattle.types.specs.declared.thread.WaitSyscall.TheVariants.{NoSyscall, WaitSynchronization1, WaitSynchronizationN, ArbitrateAddress, SleepThread}
+use Rattle.types.specs.declared.thread.WaitSyscall.TheVariants.{WaitSynchronization1, WaitSynchronizationN, ArbitrateAddress, SleepThread}
 
 -- ---- the places of a thread's list: the most handles in one wait
 abbrev pub wait_list : ℕ
 wait_list = 12
 
 -- ---- options: a flag, 1 if there is a value, and the value, 0 if there is none
-abbrev pub thread_flag : ThreadOption → ℕ
-thread_flag NoThread = 0
-thread_flag (SomeThread t) = 1
+abbrev pub option_flag : {A : Type 0} → Option A → ℕ
+option_flag None = 0
+option_flag (Some x) = 1
 
-abbrev pub thread_value : ThreadOption → ℕ
-thread_value NoThread = 0
-thread_value (SomeThread t) = t
+abbrev pub option_value : Option ℕ → ℕ
+option_value None = 0
+option_value (Some x) = x
 
-abbrev pub thread_option : ℕ → ℕ → ThreadOption
-thread_option f v = cond (eqb f 1) (SomeThread v) NoThread
+abbrev pub option_of : {A : Type 0} → ℕ → A → Option A
+option_of f x = cond (eqb f 1) (Some x) None
 
-abbrev pub tick_flag : TickOption → ℕ
-tick_flag NoTick = 0
-tick_flag (SomeTick t) = 1
+-- of a tick
+abbrev pub tick_value : Option Ticks → ℕ
+tick_value None = 0
+tick_value (Some t) = t.0
 
-abbrev pub tick_value : TickOption → ℕ
-tick_value NoTick = 0
-tick_value (SomeTick t) = t.0
-
-abbrev pub tick_option : ℕ → ℕ → TickOption
-tick_option f v = cond (eqb f 1) (SomeTick (record { 0 = v })) NoTick
-
-abbrev pub address_flag : AddressOption → ℕ
-address_flag NoAddress = 0
-address_flag (SomeAddress a) = 1
-
-abbrev pub address_value : AddressOption → ℕ
-address_value NoAddress = 0
-address_value (SomeAddress a) = a
-
-abbrev pub address_option : ℕ → ℕ → AddressOption
-address_option f v = cond (eqb f 1) (SomeAddress v) NoAddress
+abbrev pub tick_option : ℕ → ℕ → Option Ticks
+tick_option f v = option_of f (record { 0 = v })
 
 -- ---- statuses
 abbrev pub status_number : ThreadStatus → ℕ
@@ -85,25 +66,25 @@ is_dead WaitArbiter = false
 is_dead Dormant = false
 
 -- ---- results and syscalls
-abbrev pub result_number : WaitResult → ℕ
-result_number NoResult = 0
-result_number (Signaled i) = 1
-result_number TimedOut = 2
+abbrev pub result_number : Option WaitResult → ℕ
+result_number None = 0
+result_number (Some (Signaled i)) = 1
+result_number (Some TimedOut) = 2
 
-abbrev pub result_index : WaitResult → ℕ
-result_index NoResult = 0
-result_index (Signaled i) = i
-result_index TimedOut = 0
+abbrev pub result_index : Option WaitResult → ℕ
+result_index None = 0
+result_index (Some (Signaled i)) = i
+result_index (Some TimedOut) = 0
 
-abbrev pub result_of : ℕ → ℕ → WaitResult
-result_of n i = cond (eqb n 1) (Signaled i) (cond (eqb n 2) TimedOut NoResult)
+abbrev pub result_of : ℕ → ℕ → Option WaitResult
+result_of n i = cond (eqb n 1) (Some (Signaled i)) (cond (eqb n 2) (Some TimedOut) None)
 
-abbrev pub syscall_number : WaitSyscall → ℕ
-syscall_number NoSyscall = 0
-syscall_number WaitSynchronization1 = 1
-syscall_number WaitSynchronizationN = 2
-syscall_number ArbitrateAddress = 3
-syscall_number SleepThread = 4
+abbrev pub syscall_number : Option WaitSyscall → ℕ
+syscall_number None = 0
+syscall_number (Some WaitSynchronization1) = 1
+syscall_number (Some WaitSynchronizationN) = 2
+syscall_number (Some ArbitrateAddress) = 3
+syscall_number (Some SleepThread) = 4
 
-abbrev pub syscall_of : ℕ → WaitSyscall
-syscall_of n = cond (eqb n 1) WaitSynchronization1 (cond (eqb n 2) WaitSynchronizationN (cond (eqb n 3) ArbitrateAddress (cond (eqb n 4) SleepThread NoSyscall)))
+abbrev pub syscall_of : ℕ → Option WaitSyscall
+syscall_of n = cond (eqb n 1) (Some WaitSynchronization1) (cond (eqb n 2) (Some WaitSynchronizationN) (cond (eqb n 3) (Some ArbitrateAddress) (cond (eqb n 4) (Some SleepThread) None)))

@@ -1,6 +1,6 @@
 // The kernel's state (mod.rs).
 use crate::object::{HandleTable, ObjectStore};
-use crate::thread::{Thread, ThreadOption};
+use crate::thread::Thread;
 
 #[derive(Clone, Copy)]
 pub struct Kernel {
@@ -11,7 +11,7 @@ pub struct Kernel {
     // The first thread_count places are in use; the rest are all zero, so Dead.
     pub threads: [Thread; 32],
     pub thread_count: u32,
-    pub current_thread: ThreadOption,
+    pub current_thread: Option<u32>,
     pub next_tls_slot: u32,
     pub next_guest_id: u32,
     pub all_blocked: bool,

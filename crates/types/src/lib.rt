@@ -3,5 +3,6 @@
 
 pub mod kernel;
 pub mod object;
+pub mod refusal;
 pub mod sync;
 pub mod thread;

@@ -90,49 +90,19 @@ pub fn kind_number(o: KObject) -> u32
 pub fn is_free(o: KObject) -> bool
     ensures { result ≡ free? o }
 {
-    match o {
-        KObject::Free(_next) => true,
-        KObject::Thread(_t) => false,
-        KObject::Event(_e) => false,
-        KObject::Mutex(_m) => false,
-        KObject::Semaphore(_s) => false,
-        KObject::Timer(_t) => false,
-        KObject::AddressArbiter(_a) => false,
-        KObject::Process => false,
-        KObject::ResourceLimit => false,
-    }
+    matches!(&o, KObject::Free(_))
 }
 
 pub fn is_mutex(o: KObject) -> bool
     ensures { result ≡ mutex? o }
 {
-    match o {
-        KObject::Free(_next) => false,
-        KObject::Thread(_t) => false,
-        KObject::Event(_e) => false,
-        KObject::Mutex(_m) => true,
-        KObject::Semaphore(_s) => false,
-        KObject::Timer(_t) => false,
-        KObject::AddressArbiter(_a) => false,
-        KObject::Process => false,
-        KObject::ResourceLimit => false,
-    }
+    matches!(&o, KObject::Mutex(_))
 }
 
 pub fn is_timer(o: KObject) -> bool
     ensures { result ≡ timer? o }
 {
-    match o {
-        KObject::Free(_next) => false,
-        KObject::Thread(_t) => false,
-        KObject::Event(_e) => false,
-        KObject::Mutex(_m) => false,
-        KObject::Semaphore(_s) => false,
-        KObject::Timer(_t) => true,
-        KObject::AddressArbiter(_a) => false,
-        KObject::Process => false,
-        KObject::ResourceLimit => false,
-    }
+    matches!(&o, KObject::Timer(_))
 }
 
 // The next of the free chain, of a dead slot.
@@ -140,15 +110,8 @@ pub fn next_of(o: KObject) -> u32
     ensures { result ≡ next_of o }
 {
     match o {
-        KObject::Free(n) => n,
-        KObject::Thread(_t) => 0,
-        KObject::Event(_e) => 0,
-        KObject::Mutex(_m) => 0,
-        KObject::Semaphore(_s) => 0,
-        KObject::Timer(_t) => 0,
-        KObject::AddressArbiter(_a) => 0,
-        KObject::Process => 0,
-        KObject::ResourceLimit => 0,
+        KObject::Free(next) => next,
+        _ => 0,
     }
 }
 
@@ -157,14 +120,7 @@ pub fn head_of(o: KObject) -> u32
     ensures { result ≡ head_of o }
 {
     match o {
-        KObject::Free(_n) => 0,
-        KObject::Thread(_t) => 0,
-        KObject::Event(_e) => 0,
-        KObject::Mutex(_m) => 0,
-        KObject::Semaphore(_s) => 0,
-        KObject::Timer(_t) => 0,
         KObject::AddressArbiter(a) => a.waiters,
-        KObject::Process => 0,
-        KObject::ResourceLimit => 0,
+        _ => 0,
     }
 }

@@ -2,11 +2,10 @@
 ghost use Rattle.std.specs.Prelude.{◌≡◌};
 ghost use Rattle.types.specs.Sync.{reset_number, reset_from_raw};
 
-use crate::thread::{ThreadOption, TickOption};
 use units::Ticks;
 
 // How an event or a timer behaves once a waiter picks it up.
-#[derive(Clone, Copy)]
+#[derive(Clone, Copy, PartialEq, Eq)]
 pub enum ResetType {
     // Releases one waiter and clears itself.
     OneShot,
@@ -24,7 +23,7 @@ pub struct Event {
 
 #[derive(Clone, Copy)]
 pub struct Mutex {
-    pub owner: ThreadOption,
+    pub owner: Option<u32>,
     // How many times the owner has taken it.
     pub lock_count: u32,
 }
@@ -41,7 +40,7 @@ pub struct Timer {
     pub reset_type: ResetType,
     pub signaled: bool,
     // When it fires next; none if it is stopped.
-    pub fire_at: TickOption,
+    pub fire_at: Option<Ticks>,
     // The period; 0 fires once.
     pub interval: Ticks,
 }
@@ -53,7 +52,7 @@ pub struct AddressArbiter {
 }
 
 // What ArbitrateAddress can do.
-#[derive(Clone, Copy)]
+#[derive(Clone, Copy, PartialEq, Eq)]
 pub enum ArbitrationType {
     Signal,
     WaitIfLessThan,
@@ -62,29 +61,27 @@ pub enum ArbitrationType {
     DecrementAndWaitIfLessThanWithTimeout,
 }
 
-#[derive(Clone, Copy)]
-pub enum ArbitrationOption {
-    NoArbitration,
-    SomeArbitration(ArbitrationType),
-}
+impl From<ResetType> for u32 {
+    ghost from_gives = { λ r n. n ≡ reset_number r };
 
-pub fn reset_number(r: ResetType) -> u32
-    ensures { result ≡ reset_number r }
-{
-    match r {
-        ResetType::OneShot => 0,
-        ResetType::Sticky => 1,
-        ResetType::Pulse => 2,
+    fn from(r: ResetType) -> u32 {
+        match r {
+            ResetType::OneShot => 0,
+            ResetType::Sticky => 1,
+            ResetType::Pulse => 2,
+        }
     }
 }
 
-// Every number but 1 and 2 is one-shot.
-pub fn reset_from_raw(value: u32) -> ResetType
-    ensures { result ≡ reset_from_raw value }
-{
-    match value {
-        1 => ResetType::Sticky,
-        2 => ResetType::Pulse,
-        _ => ResetType::OneShot,
+// Every number but 1 and 2 is one-shot (`from_raw`).
+impl From<u32> for ResetType {
+    ghost from_gives = { λ value r. r ≡ reset_from_raw value };
+
+    fn from(value: u32) -> ResetType {
+        match value {
+            1 => ResetType::Sticky,
+            2 => ResetType::Pulse,
+            _ => ResetType::OneShot,
+        }
     }
 }

@@ -1,7 +1,6 @@
 // Threads and their saved processor state (thread.rs).
 ghost use Rattle.std.specs.Prelude.{◌≡◌};
-ghost use Rattle.types.specs.Thread.{thread_flag, thread_value, thread_option, tick_flag, tick_value, tick_option, address_flag, address_value, address_option, status_number, status_of, is_blocked, is_dead, result_number, result_index, result_of, syscall_number, syscall_of};
-ghost use Rattle.types.specs.Tests.{no_result?, no_syscall?};
+ghost use Rattle.types.specs.Thread.{option_flag, option_value, option_of, tick_value, tick_option, status_number, status_of, is_blocked, is_dead, result_number, result_index, result_of, syscall_number, syscall_of};
 
 use units::{ObjectId, Ticks};
 
@@ -10,28 +9,7 @@ pub const WAIT_LIST: usize = 12;
 // The same as a word, for what guests and records count.
 pub const WAIT_COUNT: u32 = WAIT_LIST as u32;
 
-// A thread number, or none.
-#[derive(Clone, Copy)]
-pub enum ThreadOption {
-    NoThread,
-    SomeThread(u32),
-}
-
-// A tick, or none.
-#[derive(Clone, Copy)]
-pub enum TickOption {
-    NoTick,
-    SomeTick(Ticks),
-}
-
-// A guest address, or none.
-#[derive(Clone, Copy)]
-pub enum AddressOption {
-    NoAddress,
-    SomeAddress(u32),
-}
-
-#[derive(Clone, Copy)]
+#[derive(Clone, Copy, PartialEq, Eq)]
 pub enum ThreadStatus {
     Dead,
     Running,
@@ -47,18 +25,16 @@ pub enum ThreadStatus {
 }
 
 // Why a blocked thread woke up, where its syscall has not collected it yet.
-#[derive(Clone, Copy)]
+#[derive(Clone, Copy, PartialEq, Eq)]
 pub enum WaitResult {
-    NoResult,
     // The wait succeeded, by the object at this index of its list.
     Signaled(u32),
     TimedOut,
 }
 
 // The syscall that waits for that result.
-#[derive(Clone, Copy)]
+#[derive(Clone, Copy, PartialEq, Eq)]
 pub enum WaitSyscall {
-    NoSyscall,
     WaitSynchronization1,
     WaitSynchronizationN,
     ArbitrateAddress,
@@ -81,14 +57,14 @@ pub struct Thread {
     // Whether all of them are needed.
     pub wait_all: bool,
     // When a time-out expires; none waits for good.
-    pub wakeup_at: TickOption,
+    pub wakeup_at: Option<Ticks>,
     // When the thread last started to run after a wait, and whether it has waited since.
     pub running_since: Ticks,
     pub waited: bool,
     // The address that it is parked on.
-    pub wait_address: AddressOption,
-    pub wait_result: WaitResult,
-    pub wait_syscall: WaitSyscall,
+    pub wait_address: Option<u32>,
+    pub wait_result: Option<WaitResult>,
+    pub wait_syscall: Option<WaitSyscall>,
     pub guest_id: u32,
 }
 
@@ -104,216 +80,137 @@ pub struct ThreadContext {
     pub tls_pointer: u32,
 }
 
-pub fn thread_flag(o: ThreadOption) -> u32
-    ensures { result ≡ thread_flag o }
+// 1 if there is a value, else 0.
+pub fn option_flag<T: Drop>(o: Option<T>) -> u32
+    ensures { result ≡ option_flag o }
 {
-    match o {
-        ThreadOption::NoThread => 0,
-        ThreadOption::SomeThread(_v) => 1,
-    }
+    o.is_some() as u32
 }
 
-pub fn thread_value(o: ThreadOption) -> u32
-    ensures { result ≡ thread_value o }
+// The value, 0 if there is none.
+pub fn option_value(o: Option<u32>) -> u32
+    ensures { result ≡ option_value o }
 {
-    match o {
-        ThreadOption::NoThread => 0,
-        ThreadOption::SomeThread(v) => v,
-    }
+    o.unwrap_or(0)
 }
 
-pub fn thread_option(flag: u32, value: u32) -> ThreadOption
-    ensures { result ≡ thread_option flag value }
+// The value where the flag is 1.
+pub fn option_of<T: Drop>(flag: u32, value: T) -> Option<T>
+    ensures { result ≡ option_of flag value }
 {
-    match flag {
-        1 => ThreadOption::SomeThread(value),
-        _ => ThreadOption::NoThread,
-    }
+    if flag == 1 { Some(value) } else { None }
 }
 
-pub fn tick_flag(o: TickOption) -> u32
-    ensures { result ≡ tick_flag o }
-{
-    match o {
-        TickOption::NoTick => 0,
-        TickOption::SomeTick(_v) => 1,
-    }
-}
-
-pub fn tick_value(o: TickOption) -> u64
+// As `option_value`, of a tick.
+pub fn tick_value(o: Option<Ticks>) -> u64
     ensures { result ≡ tick_value o }
 {
-    match o {
-        TickOption::NoTick => 0,
-        TickOption::SomeTick(v) => v.0,
-    }
+    o.map_or(0, |t| t.0)
 }
 
-pub fn tick_option(flag: u32, value: u64) -> TickOption
+pub fn tick_option(flag: u32, value: u64) -> Option<Ticks>
     ensures { result ≡ tick_option flag value }
 {
-    match flag {
-        1 => TickOption::SomeTick(Ticks(value)),
-        _ => TickOption::NoTick,
+    option_of(flag, Ticks(value))
+}
+
+impl From<ThreadStatus> for u32 {
+    ghost from_gives = { λ s r. r ≡ status_number s };
+
+    fn from(s: ThreadStatus) -> u32 {
+        match s {
+            ThreadStatus::Dead => 0,
+            ThreadStatus::Running => 1,
+            ThreadStatus::Ready => 2,
+            ThreadStatus::Sleeping => 3,
+            ThreadStatus::WaitSync => 4,
+            ThreadStatus::WaitArbiter => 5,
+            ThreadStatus::Dormant => 6,
+        }
     }
 }
 
-pub fn address_flag(o: AddressOption) -> u32
-    ensures { result ≡ address_flag o }
-{
-    match o {
-        AddressOption::NoAddress => 0,
-        AddressOption::SomeAddress(_v) => 1,
-    }
-}
+// An unknown number reads as Dead, and question 2 refuses it.
+impl From<u32> for ThreadStatus {
+    ghost from_gives = { λ n r. r ≡ status_of n };
 
-pub fn address_value(o: AddressOption) -> u32
-    ensures { result ≡ address_value o }
-{
-    match o {
-        AddressOption::NoAddress => 0,
-        AddressOption::SomeAddress(v) => v,
-    }
-}
-
-pub fn address_option(flag: u32, value: u32) -> AddressOption
-    ensures { result ≡ address_option flag value }
-{
-    match flag {
-        1 => AddressOption::SomeAddress(value),
-        _ => AddressOption::NoAddress,
-    }
-}
-
-pub fn status_number(s: ThreadStatus) -> u32
-    ensures { result ≡ status_number s }
-{
-    match s {
-        ThreadStatus::Dead => 0,
-        ThreadStatus::Running => 1,
-        ThreadStatus::Ready => 2,
-        ThreadStatus::Sleeping => 3,
-        ThreadStatus::WaitSync => 4,
-        ThreadStatus::WaitArbiter => 5,
-        ThreadStatus::Dormant => 6,
-    }
-}
-
-// The status of a number; an unknown number reads as Dead, and question 2 refuses it.
-pub fn status_of(n: u32) -> ThreadStatus
-    ensures { result ≡ status_of n }
-{
-    match n {
-        1 => ThreadStatus::Running,
-        2 => ThreadStatus::Ready,
-        3 => ThreadStatus::Sleeping,
-        4 => ThreadStatus::WaitSync,
-        5 => ThreadStatus::WaitArbiter,
-        6 => ThreadStatus::Dormant,
-        _ => ThreadStatus::Dead,
+    fn from(n: u32) -> ThreadStatus {
+        match n {
+            1 => ThreadStatus::Running,
+            2 => ThreadStatus::Ready,
+            3 => ThreadStatus::Sleeping,
+            4 => ThreadStatus::WaitSync,
+            5 => ThreadStatus::WaitArbiter,
+            6 => ThreadStatus::Dormant,
+            _ => ThreadStatus::Dead,
+        }
     }
 }
 
 pub fn is_blocked(s: ThreadStatus) -> bool
     ensures { result ≡ is_blocked s }
 {
-    match s {
-        ThreadStatus::Dead => false,
-        ThreadStatus::Running => false,
-        ThreadStatus::Ready => false,
-        ThreadStatus::Sleeping => true,
-        ThreadStatus::WaitSync => true,
-        ThreadStatus::WaitArbiter => true,
-        ThreadStatus::Dormant => false,
-    }
+    matches!(
+        &s,
+        ThreadStatus::Sleeping | ThreadStatus::WaitSync | ThreadStatus::WaitArbiter
+    )
 }
 
 pub fn is_dead(s: ThreadStatus) -> bool
     ensures { result ≡ is_dead s }
 {
-    match s {
-        ThreadStatus::Dead => true,
-        ThreadStatus::Running => false,
-        ThreadStatus::Ready => false,
-        ThreadStatus::Sleeping => false,
-        ThreadStatus::WaitSync => false,
-        ThreadStatus::WaitArbiter => false,
-        ThreadStatus::Dormant => false,
-    }
+    matches!(&s, ThreadStatus::Dead)
 }
 
-pub fn result_number(r: WaitResult) -> u32
+pub fn result_number(r: Option<WaitResult>) -> u32
     ensures { result ≡ result_number r }
 {
     match r {
-        WaitResult::NoResult => 0,
-        WaitResult::Signaled(_i) => 1,
-        WaitResult::TimedOut => 2,
+        None => 0,
+        Some(WaitResult::Signaled(_)) => 1,
+        Some(WaitResult::TimedOut) => 2,
     }
 }
 
-pub fn no_result(r: WaitResult) -> bool
-    ensures { result ≡ no_result? r }
-{
-    match r {
-        WaitResult::NoResult => true,
-        WaitResult::Signaled(_i) => false,
-        WaitResult::TimedOut => false,
-    }
-}
-
-pub fn result_index(r: WaitResult) -> u32
+pub fn result_index(r: Option<WaitResult>) -> u32
     ensures { result ≡ result_index r }
 {
     match r {
-        WaitResult::NoResult => 0,
-        WaitResult::Signaled(i) => i,
-        WaitResult::TimedOut => 0,
+        Some(WaitResult::Signaled(i)) => i,
+        _ => 0,
     }
 }
 
-pub fn result_of(n: u32, index: u32) -> WaitResult
+pub fn result_of(n: u32, index: u32) -> Option<WaitResult>
     ensures { result ≡ result_of n index }
 {
     match n {
-        1 => WaitResult::Signaled(index),
-        2 => WaitResult::TimedOut,
-        _ => WaitResult::NoResult,
+        1 => Some(WaitResult::Signaled(index)),
+        2 => Some(WaitResult::TimedOut),
+        _ => None,
     }
 }
 
-pub fn syscall_number(s: WaitSyscall) -> u32
+pub fn syscall_number(s: Option<WaitSyscall>) -> u32
     ensures { result ≡ syscall_number s }
 {
     match s {
-        WaitSyscall::NoSyscall => 0,
-        WaitSyscall::WaitSynchronization1 => 1,
-        WaitSyscall::WaitSynchronizationN => 2,
-        WaitSyscall::ArbitrateAddress => 3,
-        WaitSyscall::SleepThread => 4,
+        None => 0,
+        Some(WaitSyscall::WaitSynchronization1) => 1,
+        Some(WaitSyscall::WaitSynchronizationN) => 2,
+        Some(WaitSyscall::ArbitrateAddress) => 3,
+        Some(WaitSyscall::SleepThread) => 4,
     }
 }
 
-pub fn no_syscall(s: WaitSyscall) -> bool
-    ensures { result ≡ no_syscall? s }
-{
-    match s {
-        WaitSyscall::NoSyscall => true,
-        WaitSyscall::WaitSynchronization1 => false,
-        WaitSyscall::WaitSynchronizationN => false,
-        WaitSyscall::ArbitrateAddress => false,
-        WaitSyscall::SleepThread => false,
-    }
-}
-
-pub fn syscall_of(n: u32) -> WaitSyscall
+pub fn syscall_of(n: u32) -> Option<WaitSyscall>
     ensures { result ≡ syscall_of n }
 {
     match n {
-        1 => WaitSyscall::WaitSynchronization1,
-        2 => WaitSyscall::WaitSynchronizationN,
-        3 => WaitSyscall::ArbitrateAddress,
-        4 => WaitSyscall::SleepThread,
-        _ => WaitSyscall::NoSyscall,
+        1 => Some(WaitSyscall::WaitSynchronization1),
+        2 => Some(WaitSyscall::WaitSynchronizationN),
+        3 => Some(WaitSyscall::ArbitrateAddress),
+        4 => Some(WaitSyscall::SleepThread),
+        _ => None,
     }
 }

@@ -1,6 +1,8 @@
 -- Counts that are not near the end of their type fit after a wait has taken of them at each place of its list. Assumes nothing.
+use Rattle.std.specs.Prelude.{◌||◌}
+use Rattle.std.specs.List.{list_any}
 use mathlib.Core.Path.{◌≡◌, refl, sym, ap, subst, ◌∙◌}
-use mathlib.Core.Bool.{Bool, true, false, not}
+use mathlib.Core.Bool.{Bool, true, false}
 use mathlib.Core.List.{List, [], ◌∷◌}
 use mathlib.Core.Logic.{◌⊎◌, inl, inr}
 use Prim.Native.Nat.{ℕ, zero, suc, ◌+◌, ◌-◌, ◌≤◌, ◌<◌}
@@ -9,13 +11,14 @@ use lib.ListN.{length, get_or}
 use borrow.Author.Tests.{ne_eqb, lt-ltb, leb-false}
 use Rattle.laws.specs.Logic.{pick, ◌and◌, ◌or◌, or-end, lt-cases}
 use Rattle.laws.specs.All.{All, all_as, all_get}
+use Rattle.units.specs.declared.ObjectId.{ObjectId}
 use Rattle.types.specs.declared.object.KObject.{KObject}
 use Rattle.types.specs.declared.object.KObject.TheVariants.{Free, Thread, Event, Mutex, Semaphore, Timer, AddressArbiter, Process, ResourceLimit}
 use Rattle.types.specs.declared.sync.Semaphore as se
 use Rattle.types.specs.declared.object.Slot.{Slot}
 use Rattle.types.specs.declared.object.ObjectStore.{ObjectStore}
 use Rattle.types.specs.Thread.{wait_list}
-use Rattle.sound.specs.View.{slot_at, object_at}
+use Rattle.sound.specs.View.{ids, slot_at, object_at}
 use Rattle.sound.specs.Objects.{ref_of, of_none}
 use Rattle.object.specs.Slots.{with_object, content}
 use Rattle.soundness.specs.Slots.{slot_cases}
@@ -146,3 +149,13 @@ finds_none s os true fires known e = inr e
 finds_none s os false true known e = inr e
 finds_none s os false false true e = inl (refl, (refl, refl))
 finds_none s os false false false e = inr e
+
+-- of a list of objects
+pub any-near : (s : ObjectStore) (l : List ObjectId) → any_near s (ids l) ≡ list_any (λ (o : ObjectId). near (object_at s o.0)) l
+unfolding any_near ◌or◌
+any-near s [] = refl
+any-near s (o ∷ os) = ap (λ (t : Bool). near (object_at s o.0) or t) (any-near s os) ∙ or-is (near (object_at s o.0)) _
+  where
+    or-is : (x y : Bool) → x or y ≡ x || y
+    or-is true y = refl
+    or-is false y = refl

@@ -6,8 +6,8 @@ use Prim.Native.Nat.{ℕ, ◌+◌, ◌≤◌, ◌<◌}
 use native.Mathlib.Numerals.{add-one}
 use native.Mathlib.Omega.{arith}
 use lib.Dec.{eqb}
-use lib.ListN.{length, take, set, get_or, replicate, length-take, length-map, get_or-map}
-use lib.Seq.{take-suc, take_all, length-take-le, get_or-take}
+use lib.ListN.{length, take, set, get_or, replicate, length-map, get_or-map}
+use lib.Seq.{take-suc, take_all, length-take-le}
 use Rattle.laws.specs.Logic.{◌or◌, or-end}
 use Rattle.units.specs.declared.ObjectId.{ObjectId}
 use Rattle.types.specs.declared.kernel.Kernel.{Kernel}
@@ -25,32 +25,31 @@ contains-more (y ∷ ys) x n = go (eqb y n) (contains-more ys x n)
     go true e = refl
     go false e = e
 
-module _ (k : Kernel) (words : List ℕ) (n : ℕ) where
+module _ (k : Kernel) (hs : List ℕ) where
   abbrev pub found : List ℕ
-  found = map (open_object k) (take n words)
+  found = map (open_object k) hs
 
   -- after i handles
   abbrev pub Looking : List ObjectId → Bool → ℕ → Type 0
   Looking l unknown i = (l ≡ padded wait_list (take i found)) × (unknown ≡ contains (take i found) 0)
 
-  size : length found ≡ length (take n words)
-  size = length-map (take n words) (open_object k)
+  size : length found ≡ length hs
+  size = length-map hs (open_object k)
 
-  pub looked-all : (l : List ObjectId) (unknown : Bool) (i : ℕ) → Looking l unknown i → length (take n words) ≤ i → (l ≡ padded wait_list found) × (not unknown ≡ not (contains found 0))
+  pub looked-all : (l : List ObjectId) (unknown : Bool) (i : ℕ) → Looking l unknown i → length hs ≤ i → (l ≡ padded wait_list found) × (not unknown ≡ not (contains found 0))
   looked-all l unknown i v h =
       let e : take i found ≡ found = take_all i found (omega (arith, size)) in
       (v.0 ∙ ap (padded wait_list) e, ap not (v.1 ∙ ap (λ (x : List ℕ). contains x 0) e))
 
-  pub looked-more : length words ≡ wait_list → (l : List ObjectId) (unknown : Bool) (i : ℕ) → Looking l unknown i → i < n → i < wait_list → (o : ObjectId) → o.0 ≡ open_object k (get_or words i 0) → Looking (set l i o) (unknown or eqb o.0 0) (i + 1)
-  looked-more z l unknown i v h m o e =
-      let j : i < length (take n words) = simp length-take (omega arith) in
+  pub looked-more : (l : List ObjectId) (unknown : Bool) (i : ℕ) → Looking l unknown i → i < length hs → i < wait_list → (o : ObjectId) → o.0 ≡ open_object k (get_or hs i 0) → Looking (set l i o) (unknown or eqb o.0 0) (i + 1)
+  looked-more l unknown i v j m o e =
       let b : i < length found = omega (arith, size) in
-      let d : get_or found i (open_object k 0) ≡ o.0 = get_or-map (open_object k) (take n words) i 0 ∙ ap (open_object k) (get_or-take n words i 0 h) ∙ sym e in
+      let d : get_or found i (open_object k 0) ≡ o.0 = get_or-map (open_object k) hs i 0 ∙ sym e in
       let q : take (i + 1) found ≡ take i found ++ (o.0 ∷ []) = rw add-one (take-suc found i (open_object k 0) b ∙ ap (λ (x : ℕ). take i found ++ (x ∷ [])) d) in
       let r : length (take i found) ≡ i = length-take-le i found (omega arith) in
       let w : set (padded wait_list (take i found)) (length (take i found)) (record { 0 = o.0 }) ≡ padded wait_list (take i found ++ (o.0 ∷ [])) = padded-more wait_list (take i found) o.0 (omega arith) in
       (rw (v.0, q) (rw r at w), ap (λ (t : Bool). t or eqb o.0 0) v.1 ∙ sym (ap (λ (x : List ℕ). contains x 0) q ∙ contains-more (take i found) o.0 0))
 
-pub looked-none : (k : Kernel) (words : List ℕ) (n : ℕ) → Looking k words n (replicate wait_list (record { 0 = 0 })) false 0
+pub looked-none : (k : Kernel) (hs : List ℕ) → Looking k hs (replicate wait_list (record { 0 = 0 })) false 0
 unfolding padded contains
-looked-none k words n = (refl, refl)
+looked-none k hs = (refl, refl)

@@ -1,4 +1,5 @@
 -- Whether the objects that a list of handles makes have slots. Assumes nothing.
+use Rattle.std.specs.Prelude.{Option, Some, None}
 use mathlib.Core.Path.{◌≡◌, refl, sym, ap, subst, ◌∙◌}
 use mathlib.Core.Bool.{Bool, true, false}
 use mathlib.Core.List.{List, [], ◌∷◌}
@@ -9,8 +10,6 @@ use lib.Dec.{eqb, ltb}
 use lib.ListN.{length, set, length-set}
 use borrow.Author.Tests.{eq-eqb, ne_eqb, eqb-true, eqb-false, lt-ltb}
 use Rattle.laws.specs.Logic.{pick, pick_yes, ◌and◌, ◌or◌, and-end, and-false, or-true, or-end}
-use Rattle.types.specs.declared.thread.ThreadOption.{ThreadOption}
-use Rattle.types.specs.declared.thread.ThreadOption.TheVariants.{NoThread, SomeThread}
 use Rattle.types.specs.declared.object.KObject.{KObject}
 use Rattle.types.specs.declared.object.KObject.TheVariants.{Thread, Process}
 use Rattle.types.specs.declared.object.HandleTable.{HandleTable}
@@ -34,7 +33,7 @@ unfolding ◌and◌ ◌or◌
 lacking-none true g a b p q = rw (p, q)
 lacking-none false g a b p q = rw p (and-false g)
 
-wants-none : (c : ThreadOption) (s : ObjectStore) → lacking (eqb s.free 0) (eqb (next_of (object_at s s.free)) 0) (makes_current s c and false) (eqb s.process_object.0 0 and false) ≡ false
+wants-none : (c : Option ℕ) (s : ObjectStore) → lacking (eqb s.free 0) (eqb (next_of (object_at s s.free)) 0) (makes_current s c and false) (eqb s.process_object.0 0 and false) ≡ false
 wants-none c s = lacking-none (eqb s.free 0) (eqb (next_of (object_at s s.free)) 0) (makes_current s c and false) (eqb s.process_object.0 0 and false) (and-false (makes_current s c)) (and-false (eqb s.process_object.0 0))
 
 -- with one slot less, the other object is one too many where two were
@@ -68,19 +67,19 @@ module _ (s : ObjectStore) where
   made-fits v e z = rw (ne_eqb s.free 0 z) (or-end s.full ∙ e)
 
 -- ---- handle by handle
-abbrev Fits : ThreadOption → HandleTable → List ℕ → ObjectStore → Type 0
+abbrev Fits : Option ℕ → HandleTable → List ℕ → ObjectStore → Type 0
 Fits c t hs s = s.full ≡ false → length s.thread_objects ≡ 32 → (resolve_store c t s hs).full ≡ lacks_room c t s hs
 
 module _ (t : HandleTable) (hs : List ℕ) where
-  nobody : (s : ObjectStore) → Fits NoThread t (0xFFFF8000 ∷ hs) s
+  nobody : (s : ObjectStore) → Fits None t (0xFFFF8000 ∷ hs) s
   unfolding resolve_store resolve met ◌and◌
-  nobody s e n = e ∙ sym (wants-none NoThread s)
+  nobody s e n = e ∙ sym (wants-none None s)
 
-  module _ (u : ℕ) (h : u < 32) (rest : (s : ObjectStore) → Fits (SomeThread u) t hs s) (s : ObjectStore) (e : s.full ≡ false) (n : length s.thread_objects ≡ 32) where
+  module _ (u : ℕ) (h : u < 32) (rest : (s : ObjectStore) → Fits (Some u) t hs s) (s : ObjectStore) (e : s.full ≡ false) (n : length s.thread_objects ≡ 32) where
     abbrev made : ObjectStore
     made = kept s u
 
-    first : resolve_store (SomeThread u) t s (0xFFFF8000 ∷ hs) ≡ pick (eqb (kept_at (thread_object s u) u) 0) (thread_object s u) (resolve_store (SomeThread u) t (thread_object s u) hs)
+    first : resolve_store (Some u) t s (0xFFFF8000 ∷ hs) ≡ pick (eqb (kept_at (thread_object s u) u) 0) (thread_object s u) (resolve_store (Some u) t (thread_object s u) hs)
     unfolding resolve_store resolve
     first = refl
 
@@ -90,43 +89,43 @@ module _ (t : HandleTable) (hs : List ℕ) where
       unfolding thread_object
       thread-is = rw k
 
-      thread-full : (q : Bool) → eqb s.free 0 ≡ q → (pick q made (resolve_store (SomeThread u) t made hs)).full ≡ lacks_room (SomeThread u) t s (0xFFFF8000 ∷ hs)
+      thread-full : (q : Bool) → eqb s.free 0 ≡ q → (pick q made (resolve_store (Some u) t made hs)).full ≡ lacks_room (Some u) t s (0xFFFF8000 ∷ hs)
       unfolding met insert ◌and◌ ◌or◌
       thread-full true f =
-          let r : lacks_room (SomeThread u) t s (0xFFFF8000 ∷ hs) ≡ true = rw (k, f) in
+          let r : lacks_room (Some u) t s (0xFFFF8000 ∷ hs) ≡ true = rw (k, f) in
           made-full s (Thread u) (eqb-true s.free 0 f) ∙ sym r
       thread-full false f =
-          let b : Bool = eqb s.process_object.0 0 and met (SomeThread u) t 0xFFFF8001 hs in
-          let r : lacks_room (SomeThread u) t s (0xFFFF8000 ∷ hs) ≡ lacking false (eqb made.free 0) true b = rw (k, f) in
+          let b : Bool = eqb s.process_object.0 0 and met (Some u) t 0xFFFF8001 hs in
+          let r : lacks_room (Some u) t s (0xFFFF8000 ∷ hs) ≡ lacking false (eqb made.free 0) true b = rw (k, f) in
           rest made (made-fits s (Thread u) e (eqb-false s.free 0 f)) (length-set s.thread_objects u (record { 0 = s.free }) ∙ n)
-          ∙ ap (λ (x : Bool). lacking (eqb made.free 0) (eqb (next_of (object_at made made.free)) 0) (x and met (SomeThread u) t 0xFFFF8000 hs) b) (ap (λ (o : ℕ). eqb o 0) (kept-at s u h n) ∙ f)
+          ∙ ap (λ (x : Bool). lacking (eqb made.free 0) (eqb (next_of (object_at made made.free)) 0) (x and met (Some u) t 0xFFFF8000 hs) b) (ap (λ (o : ℕ). eqb o 0) (kept-at s u h n) ∙ f)
           ∙ one-thread (eqb made.free 0) (eqb (next_of (object_at made made.free)) 0) b ∙ sym r
 
-      thread-made : (resolve_store (SomeThread u) t s (0xFFFF8000 ∷ hs)).full ≡ lacks_room (SomeThread u) t s (0xFFFF8000 ∷ hs)
+      thread-made : (resolve_store (Some u) t s (0xFFFF8000 ∷ hs)).full ≡ lacks_room (Some u) t s (0xFFFF8000 ∷ hs)
       thread-made =
           ap (λ (y : ObjectStore). y.full)
-          (first ∙ ap (λ (y : ObjectStore). pick (eqb (kept_at y u) 0) y (resolve_store (SomeThread u) t y hs)) thread-is ∙ ap (λ (o : ℕ). pick (eqb o 0) made (resolve_store (SomeThread u) t made hs)) (kept-at s u h n))
+          (first ∙ ap (λ (y : ObjectStore). pick (eqb (kept_at y u) 0) y (resolve_store (Some u) t y hs)) thread-is ∙ ap (λ (o : ℕ). pick (eqb o 0) made (resolve_store (Some u) t made hs)) (kept-at s u h n))
           ∙ thread-full (eqb s.free 0) refl
 
-    thread-there : eqb (kept_at s u) 0 ≡ false → (resolve_store (SomeThread u) t s (0xFFFF8000 ∷ hs)).full ≡ lacks_room (SomeThread u) t s (0xFFFF8000 ∷ hs)
+    thread-there : eqb (kept_at s u) 0 ≡ false → (resolve_store (Some u) t s (0xFFFF8000 ∷ hs)).full ≡ lacks_room (Some u) t s (0xFFFF8000 ∷ hs)
     unfolding met thread_object ◌and◌
     thread-there k =
         let p : thread_object s u ≡ s = rw k in
-        let r : lacks_room (SomeThread u) t s hs ≡ lacks_room (SomeThread u) t s (0xFFFF8000 ∷ hs) = rw k in
+        let r : lacks_room (Some u) t s hs ≡ lacks_room (Some u) t s (0xFFFF8000 ∷ hs) = rw k in
         ap (λ (y : ObjectStore). y.full)
-        (first ∙ ap (λ (y : ObjectStore). pick (eqb (kept_at y u) 0) y (resolve_store (SomeThread u) t y hs)) p ∙ ap (λ (q : Bool). pick q s (resolve_store (SomeThread u) t s hs)) k)
+        (first ∙ ap (λ (y : ObjectStore). pick (eqb (kept_at y u) 0) y (resolve_store (Some u) t y hs)) p ∙ ap (λ (q : Bool). pick q s (resolve_store (Some u) t s hs)) k)
         ∙ rest s e n ∙ r
 
-    thread_any : (q : Bool) → eqb (kept_at s u) 0 ≡ q → (resolve_store (SomeThread u) t s (0xFFFF8000 ∷ hs)).full ≡ lacks_room (SomeThread u) t s (0xFFFF8000 ∷ hs)
+    thread_any : (q : Bool) → eqb (kept_at s u) 0 ≡ q → (resolve_store (Some u) t s (0xFFFF8000 ∷ hs)).full ≡ lacks_room (Some u) t s (0xFFFF8000 ∷ hs)
     thread_any true k = thread-made k
     thread_any false k = thread-there k
 
-  current : (c : ThreadOption) → CurrentIn c → ((s : ObjectStore) → Fits c t hs s) → (s : ObjectStore) → Fits c t (0xFFFF8000 ∷ hs) s
-  current NoThread h rest s e n = nobody s e n
-  current (SomeThread u) h rest s e n = thread_any u h rest s e n (eqb (kept_at s u) 0) refl
+  current : (c : Option ℕ) → CurrentIn c → ((s : ObjectStore) → Fits c t hs s) → (s : ObjectStore) → Fits c t (0xFFFF8000 ∷ hs) s
+  current None h rest s e n = nobody s e n
+  current (Some u) h rest s e n = thread_any u h rest s e n (eqb (kept_at s u) 0) refl
 
   -- ---- the process's
-  module _ (c : ThreadOption) (rest : (s : ObjectStore) → Fits c t hs s) (s : ObjectStore) (e : s.full ≡ false) (n : length s.thread_objects ≡ 32) where
+  module _ (c : Option ℕ) (rest : (s : ObjectStore) → Fits c t hs s) (s : ObjectStore) (e : s.full ≡ false) (n : length s.thread_objects ≡ 32) where
     abbrev new : ObjectStore
     new = process s
 
@@ -134,10 +133,10 @@ module _ (t : HandleTable) (hs : List ℕ) where
     unfolding resolve_store resolve
     start = refl
 
-    same-current : (d : ThreadOption) → makes_current new d ≡ makes_current s d
+    same-current : (d : Option ℕ) → makes_current new d ≡ makes_current s d
     unfolding insert
-    same-current NoThread = refl
-    same-current (SomeThread u) = refl
+    same-current None = refl
+    same-current (Some u) = refl
 
     module _ (k : eqb s.process_object.0 0 ≡ true) where
       process-is : process_object s ≡ new
@@ -182,7 +181,7 @@ module _ (t : HandleTable) (hs : List ℕ) where
       plain_if false k = rw (ne_eqb h 0xFFFF8000 p, ne_eqb h 0xFFFF8001 r, k) (rest s e n)
 
 -- the store is full afterwards exactly if room is lacking
-pub full_is : (c : ThreadOption) (t : HandleTable) → CurrentIn c → (hs : List ℕ) (s : ObjectStore) → Fits c t hs s
+pub full_is : (c : Option ℕ) (t : HandleTable) → CurrentIn c → (hs : List ℕ) (s : ObjectStore) → Fits c t hs s
 unfolding resolve_store met
 full_is c t h [] s e n = e ∙ sym (wants-none c s)
 full_is c t h (x ∷ hs) s e n = elim (ℕ_discrete x 0xFFFF8000) [

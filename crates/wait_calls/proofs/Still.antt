@@ -1,4 +1,6 @@
 -- Catching up with the timers changes nothing but timers. Assumes nothing.
+use Rattle.std.specs.Prelude.{Option, Some, None}
+use Rattle.units.specs.declared.Ticks.{Ticks}
 use mathlib.Core.Path.{◌≡◌, refl, sym, ap, ◌∙◌}
 use mathlib.Core.Bool.{Bool, true, false, not}
 use mathlib.Core.List.{List, [], ◌∷◌, map}
@@ -6,8 +8,6 @@ use Prim.Native.Nat.{ℕ, zero, suc}
 use lib.Dec.{leb}
 use lib.ListN.{get_or, get_or-map}
 use Rattle.laws.specs.Logic.{pick, ◌and◌, ◌or◌}
-use Rattle.types.specs.declared.thread.TickOption.{TickOption}
-use Rattle.types.specs.declared.thread.TickOption.TheVariants.{NoTick, SomeTick}
 use Rattle.types.specs.declared.thread.Thread as th
 use Rattle.types.specs.declared.sync.Timer as ti
 use Rattle.types.specs.declared.object.KObject.{KObject}
@@ -31,9 +31,9 @@ untimed Process = Process
 untimed ResourceLimit = ResourceLimit
 
 -- ---- a timer that fires
-fired-at : (s : Slot) (t : ti.Timer) (at : TickOption) (tick : ℕ) → untimed s.object ≡ Process → untimed (fired_at s t at tick).object ≡ Process
-fired-at s t NoTick tick e = e
-fired-at s t (SomeTick at) tick e = go (leb at.0 tick)
+fired-at : (s : Slot) (t : ti.Timer) (at : Option Ticks) (tick : ℕ) → untimed s.object ≡ Process → untimed (fired_at s t at tick).object ≡ Process
+fired-at s t None tick e = e
+fired-at s t (Some at) tick e = go (leb at.0 tick)
   where
     go : (b : Bool) → untimed (pick b (record { object = Timer (fired_timer t at.0 tick); refcount = s.refcount; pulsed = s.pulsed or is_pulse t.reset_type }) s).object ≡ Process
     go true = refl

@@ -1,12 +1,15 @@
 -- What is found of objects that a wait takes, and the block with them taken. Assumes nothing.
-use mathlib.Core.Path.{◌≡◌, sym, ap, ◌∙◌}
+use Rattle.std.specs.Prelude.{Some, Result, Ok, Err}
+use mathlib.Core.Path.{◌≡◌, refl, sym, ap, ◌∙◌}
 use mathlib.Core.Bool.{Bool, true, false}
 use mathlib.Core.List.{List}
 use Prim.Native.Nat.{ℕ}
 use native.Mathlib.Omega.{arith}
-use Rattle.laws.specs.Logic.{◌or◌}
-use Rattle.types.specs.declared.thread.ThreadOption.TheVariants.{SomeThread}
+use Rattle.laws.specs.Logic.{pick, ◌or◌, or-end}
 use Rattle.types.specs.declared.object.ObjectStore.{ObjectStore}
+use Rattle.types.specs.declared.refusal.Refusal.{Refusal}
+use Rattle.types.specs.declared.refusal.Refusal.TheVariants.{Overflow}
+use Rattle.types.specs.Refusal.{unless_found}
 use Rattle.types.specs.declared.kernel.Kernel.{Kernel}
 use Rattle.block.specs.Block.{enc_block, dec_block}
 use Rattle.sound.specs.View.{object_at}
@@ -26,7 +29,7 @@ use Rattle.rows.specs.Holds.{holds}
 use Rattle.timer_calls.proofs.Found.{down}
 
 -- the current thread lives
-pub taker_lives : (b : List ℕ) → sound? b ≡ true → (w : ℕ) → (dec_block b).current_thread ≡ SomeThread w → Live (dec_block b).threads w
+pub taker_lives : (b : List ℕ) → sound? b ≡ true → (w : ℕ) → (dec_block b).current_thread ≡ Some w → Live (dec_block b).threads w
 taker_lives b s w c = current-live (dec_block b) (sound-parts (dec_block b) ((t_block b).yes s).state) w c
 
 -- the objects t are left
@@ -34,14 +37,9 @@ module _ (b : List ℕ) (n : out_of_handles? (dec_block b) ≡ false) (t : Objec
   abbrev after : Kernel
   after = with_objects (dec_block b) t
 
-  -- a count does not fit
-  found-over : t.overflow ≡ true → finding after ≡ 8
-  unfolding ◌or◌
-  found-over v = parts-finding b (dec_block b).threads t ∙ (λ i. found_of (full i) (v i or out_of_handles? (dec_block b)))
-
-  found_none : t.overflow ≡ false → finding after ≡ 0
-  unfolding ◌or◌
-  found_none v = parts-finding b (dec_block b).threads t ∙ (λ i. found_of (full i) (v i or n i))
+  -- a count that does not fit is found
+  found_as : pick t.overflow 8 0 ≡ finding after
+  found_as = sym (parts-finding b (dec_block b).threads t ∙ (λ i. found_of (full i) (t.overflow or n i)) ∙ ap (λ (v : Bool). pick v 8 0) (or-end t.overflow))
 
   holds_after : (e : List ℕ) → sound? e ≡ true → dec_block e ≡ with_threads (dec_block b) (dec_block b).threads t → e ≡ enc_block after
   holds_after e s d = (holds e s).same ∙ ap enc_block d
@@ -58,18 +56,24 @@ module _ (b : List ℕ) (n : out_of_handles? (dec_block b) ≡ false) (w : ℕ) 
     unfolding acquire
     over-is = ap (λ (z : Bool). z or acquire_over (object_at (dec_block b).objects o)) (down b).1
 
-    pub taken-over : acquire_over (object_at (dec_block b).objects o) ≡ true → (e : List ℕ) → e ≡ b → (8 ≡ finding (with_objects (dec_block b) one)) × (e ≡ left (done (with_objects (dec_block b) one)) b)
-    unfolding ◌or◌
-    taken-over v e p =
-        let f = found-over b n one one-full (over-is ∙ v) in
-        (sym f, p ∙ sym (left-found (done (with_objects (dec_block b) one)) b (λ z. omega (arith, f, z))))
+    abbrev over : Bool
+    over = acquire_over (object_at (dec_block b).objects o)
 
-    pub taken-fits : acquire_over (object_at (dec_block b).objects o) ≡ false → (e : List ℕ) → sound? e ≡ true → dec_block e ≡ with_threads (dec_block b) (dec_block b).threads one
-        → (0 ≡ finding (with_objects (dec_block b) one)) × (e ≡ left (done (with_objects (dec_block b) one)) b)
+    pub taken-finding : pick over 8 0 ≡ finding (with_objects (dec_block b) one)
     unfolding ◌or◌
-    taken-fits v e s d =
-        let f = found_none b n one one-full (over-is ∙ v) in
-        (sym f, holds_after b n one one-full e s d ∙ sym (left-0 (done (with_objects (dec_block b) one)) b f))
+    taken-finding = ap (λ (t : Bool). pick t 8 0) (sym over-is) ∙ found_as b n one one-full
+
+    -- what taking it answers, and leaves in the block e
+    pub taken-left : (a : Result (Unit {0}) Refusal) (e : List ℕ) → a ≡ unless_found (pick over 8 0) tt → (a ≡ Err Overflow → e ≡ b)
+        → (a ≡ Ok tt → dec_block e ≡ with_threads (dec_block b) (dec_block b).threads one) → sound? e ≡ true → e ≡ left (done (with_objects (dec_block b) one)) b
+    taken-left a e v same d s = go over refl
+      where
+        is : (t : Bool) → over ≡ t → finding (with_objects (dec_block b) one) ≡ pick t 8 0
+        is t q = sym taken-finding ∙ ap (λ (x : Bool). pick x 8 0) q
+
+        go : (t : Bool) → over ≡ t → e ≡ left (done (with_objects (dec_block b) one)) b
+        go true q = same (v ∙ ap (λ (x : Bool). unless_found (pick x 8 0) tt) q) ∙ sym (left-found (done (with_objects (dec_block b) one)) b (λ z. let f = is true q in omega (arith, f, z)))
+        go false q = holds_after b n one one-full e s (d (v ∙ ap (λ (x : Bool). unless_found (pick x 8 0) tt) q)) ∙ sym (left-0 (done (with_objects (dec_block b) one)) b (is false q))
 
   module _ (os : List ℕ) where
     abbrev all : ObjectStore
@@ -78,9 +82,8 @@ module _ (b : List ℕ) (n : out_of_handles? (dec_block b) ≡ false) (w : ℕ) 
     all-full : all.full ≡ false
     all-full = acquires-full os (dec_block b).objects w ∙ (down b).0
 
-    pub list_over : all.overflow ≡ true → 8 ≡ finding (with_objects (dec_block b) all)
-    list_over v = sym (found-over b n all all-full v)
+    pub list-finding : pick all.overflow 8 0 ≡ finding (with_objects (dec_block b) all)
+    list-finding = found_as b n all all-full
 
-    pub list-fits : all.overflow ≡ false → (e : List ℕ) → sound? e ≡ true → dec_block e ≡ with_threads (dec_block b) (dec_block b).threads all
-        → (0 ≡ finding (with_objects (dec_block b) all)) × (e ≡ enc_block (with_objects (dec_block b) all))
-    list-fits v e s d = (sym (found_none b n all all-full v), holds_after b n all all-full e s d)
+    pub list-left : (e : List ℕ) → sound? e ≡ true → dec_block e ≡ with_threads (dec_block b) (dec_block b).threads all → e ≡ enc_block (with_objects (dec_block b) all)
+    list-left e s d = holds_after b n all all-full e s d

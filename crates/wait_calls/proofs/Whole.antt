@@ -1,4 +1,5 @@
 -- The whole of `wait_synchronization_n` on the block b, by the code's cases. Assumes nothing.
+use Rattle.std.specs.Prelude.{Option, Some, None}
 use mathlib.Core.Path.{◌≡◌, refl, sym, ap, subst, ◌∙◌}
 use mathlib.Core.Bool.{Bool, true, false, not}
 use mathlib.Core.List.{List, [], ◌∷◌, map}
@@ -11,8 +12,6 @@ use Rattle.laws.specs.Logic.{pick, ◌and◌, ◌or◌, or-false, false-true}
 use Rattle.codec.specs.Bytes as bytes
 use Rattle.codec.proofs.Laws.{over-all}
 use Rattle.units.specs.declared.ObjectId.{ObjectId}
-use Rattle.types.specs.declared.thread.ThreadOption.{ThreadOption}
-use Rattle.types.specs.declared.thread.ThreadOption.TheVariants.{NoThread, SomeThread}
 use Rattle.types.specs.declared.object.HandleTable.{HandleTable}
 use Rattle.types.specs.declared.object.ObjectStore.{ObjectStore}
 use Rattle.types.specs.declared.kernel.Kernel.{Kernel}
@@ -45,7 +44,6 @@ use Rattle.rows.specs.Current.{current-place}
 use Rattle.due.proofs.Caught.{none-due}
 use Rattle.objects.specs.Open.{makes_current}
 use Rattle.timer_calls.proofs.Opened.{caught_as, caught-full}
-use Rattle.wait_calls.specs.declared.handles.Opened.{Opened}
 use Rattle.wait_calls.specs.Waits.{wait_in}
 use Rattle.wait_calls.specs.Opens.{store_of, objects_of, Opens, Ready}
 use Rattle.wait_calls.specs.Room.{met, lacking, lacks_room}
@@ -78,14 +76,14 @@ module _ (k : Kernel) (s : ObjectStore) where
 
 -- ---- room is lacking before the timers fire exactly if it is after
 module _ (k : Kernel) (tick : ℕ) where
-  same_kept : (c : ThreadOption) → makes_current (caught_up k tick).objects c ≡ makes_current k.objects c
-  same_kept NoThread = refl
-  same_kept (SomeThread t) = ap (λ (s : ObjectStore). makes_current s (SomeThread t)) (caught_as k.objects k.threads tick)
+  same_kept : (c : Option ℕ) → makes_current (caught_up k tick).objects c ≡ makes_current k.objects c
+  same_kept None = refl
+  same_kept (Some t) = ap (λ (s : ObjectStore). makes_current s (Some t)) (caught_as k.objects k.threads tick)
 
   same_next : (o : ℕ) → next_of (object_at (caught_up k tick).objects o) ≡ next_of (object_at k.objects o)
   same_next o = caught-same next_of (λ t. refl) k.objects k.threads tick o
 
-  same-room : (c : ThreadOption) (t : HandleTable) (hs : List ℕ) → lacks_room c t (caught_up k tick).objects hs ≡ lacks_room c t k.objects hs
+  same-room : (c : Option ℕ) (t : HandleTable) (hs : List ℕ) → lacks_room c t (caught_up k tick).objects hs ≡ lacks_room c t k.objects hs
   same-room c t hs =
       let e = caught_as k.objects k.threads tick in
       let f : (caught_up k tick).objects.free ≡ k.objects.free = ap (λ (s : ObjectStore). s.free) e in
@@ -127,9 +125,9 @@ module _ (b : List ℕ) (sd : sound? b ≡ true) (r : Registers) (words : List �
   abbrev before : ℕ
   before = found_of s.full (caught.objects.overflow or out_of_handles? k)
 
-  current_in : (c : ThreadOption) → k.current_thread ≡ c → CurrentIn c
-  current_in NoThread e = tt
-  current_in (SomeThread c) e = current-place b sd c e
+  current_in : (c : Option ℕ) → k.current_thread ≡ c → CurrentIn c
+  current_in None e = tt
+  current_in (Some c) e = current-place b sd c e
 
   -- known handles make nothing, others lack room or not
   pub full-before : (known full : Bool) → known ≡ not (contains (map (open_object k) hs) 0) → full ≡ pick known false (lacks_room k.current_thread k.handles k.objects hs) → full ≡ s.full
@@ -199,19 +197,21 @@ module _ (b : List ℕ) (sd : sound? b ≡ true) (r : Registers) (words : List �
     room-caught = ap (λ (y : Kernel). (store_of y (take n words)).full) d ∙ g.room
 
     -- every handle is known
-    pub known_is : known ≡ true → wait_in (dec_block m) l true (least n wait_list) r tick ≡ wait_synchronization_n (dec_block b) r (take n words) tick
+    pub known_is : known ≡ true → wait_in (dec_block m) (Some l) (least n wait_list) r tick ≡ wait_synchronization_n (dec_block b) r (take n words) tick
     known_is e =
         let f : contains (map (open_object (dec_block b)) (take n words)) 0 ≡ false = not-true _ (sym g.looked ∙ e) in
         let p = plain-all (dec_block b) c.objects (take n words) f in
-        let t : true ≡ not (contains (objects_of c (take n words)) 0) = sym (ap not (ap (λ (x : List ℕ). contains x 0) p.0 ∙ f)) in
-        ap (λ (y : Kernel). wait_in y l true (least n wait_list) r tick) (d ∙ ap (with_objects c) (sym p.1))
-        ∙ wait-in (dec_block b) r words n tick g.size l true t (λ _. g.objects ∙ ap (padded wait_list) (sym p.0))
+        let os : List ℕ = objects_of c (take n words) in
+        let t : contains os 0 ≡ false = ap (λ (x : List ℕ). contains x 0) p.0 ∙ f in
+        let q : Some l ≡ pick (contains os 0) None (Some (padded wait_list os)) = ap Some (g.objects ∙ ap (padded wait_list) (sym p.0)) ∙ ap (λ (u : Bool). pick u None (Some (padded wait_list os))) (sym t) in
+        ap (λ (y : Kernel). wait_in y (Some l) (least n wait_list) r tick) (d ∙ ap (with_objects c) (sym p.1))
+        ∙ wait-in (dec_block b) r words n tick g.size (Some l) q
 
     -- they are opened in the block e
-    pub opened-is : (e : List ℕ) (x : Opened) → Opens (dec_block m) (take n words) e x → wait_in (dec_block e) x.objects x.known (least n wait_list) r tick ≡ wait_synchronization_n (dec_block b) r (take n words) tick
+    pub opened-is : (e : List ℕ) (x : Option (List ObjectId)) → Opens (dec_block m) (take n words) e x → wait_in (dec_block e) x (least n wait_list) r tick ≡ wait_synchronization_n (dec_block b) r (take n words) tick
     opened-is e x o =
         let w : Opens c (take n words) e x = subst (λ (y : Kernel). Opens y (take n words) e x) d o in
-        ap (λ (y : Kernel). wait_in y x.objects x.known (least n wait_list) r tick) w.state ∙ wait-in (dec_block b) r words n tick g.size x.objects x.known w.known w.objects
+        ap (λ (y : Kernel). wait_in y x (least n wait_list) r tick) w.state ∙ wait-in (dec_block b) r words n tick g.size x w.objects
 
     -- no timer came due
     pub same_block : sound? m ≡ true → fires ≡ false → m ≡ b

@@ -1,5 +1,6 @@
 -- A list of handles, before the wait and opened in the block. Assumes nothing.
-use Rattle.std.specs.Prelude.{◌≡◌, Bool, true, false, not, List, map, ℕ, length, take}
+use Rattle.std.specs.Prelude.{◌≡◌, Bool, true, false, not, List, map, ℕ, length, take, Option, Some, None}
+use Rattle.laws.specs.Logic.{pick}
 use Rattle.units.specs.declared.ObjectId.{ObjectId}
 use Rattle.types.specs.declared.object.ObjectStore.{ObjectStore}
 use Rattle.types.specs.declared.kernel.Kernel.{Kernel}
@@ -13,7 +14,6 @@ use Rattle.svc.specs.Call.{with_objects}
 use Rattle.svc.specs.Timers.{caught_up}
 use Rattle.svc.specs.Waits.{resolve_all, resolve_store}
 use Rattle.lent.specs.Operations.{out_of_handles?}
-use Rattle.wait_calls.specs.declared.handles.Opened.{Opened}
 
 abbrev pub objects_of : Kernel → List ℕ → List ℕ
 objects_of k hs = resolve_all k.current_thread k.handles k.objects hs
@@ -22,11 +22,11 @@ abbrev pub store_of : Kernel → List ℕ → ObjectStore
 store_of k hs = resolve_store k.current_thread k.handles k.objects hs
 
 -- opened from the state k on; e is the block afterwards
-pub record Opens (k : Kernel) (hs : List ℕ) (e : List ℕ) (o : Opened) : Type 0 where
+pub record Opens (k : Kernel) (hs : List ℕ) (e : List ℕ) (o : Option (List ObjectId)) : Type 0 where
   pub sound : sound? e ≡ true
   pub state : dec_block e ≡ with_objects k (store_of k hs)
-  pub known : o.known ≡ not (contains (objects_of k hs) 0)
-  pub objects : o.known ≡ true → o.objects ≡ padded wait_list (objects_of k hs)
+  -- none where a handle is unknown
+  pub objects : o ≡ pick (contains (objects_of k hs) 0) None (Some (padded wait_list (objects_of k hs)))
 
 -- what is known of the first n words before the first write: nothing is found until the wait takes objects
 pub record Ready (k : Kernel) (words : List ℕ) (n : ℕ) (l : List ObjectId) (known fires : Bool) (tick : ℕ) : Type 0 where

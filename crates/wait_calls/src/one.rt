@@ -1,5 +1,5 @@
 // `wait_synchronization1` (svc.rs).
-ghost use Rattle.std.specs.Prelude.{◌≡◌, true, false, length};
+ghost use Rattle.std.specs.Prelude.{◌≡◌, true, false, Some};
 ghost use Rattle.block.specs.Block.{dec_block};
 ghost use Rattle.sound.specs.Question.{sound?};
 ghost use Rattle.pass.specs.Asks.{pseudo};
@@ -8,91 +8,91 @@ ghost use Rattle.lent.specs.Operations.{out_of_handles?};
 ghost use Rattle.outcome.specs.Outcome.{outcome, left};
 ghost use Rattle.wait_calls.specs.Named.{wait1_opened};
 
+use crate::begin_wait::WaitFor;
 use crate::{begin_wait, taken};
-use outcome::Outcome;
+use block::Block;
+use outcome::{Answer, Outcome};
 use rows::read;
 use svc::Registers;
 use timer_calls::caught;
-use types::thread::{ThreadOption, WAIT_LIST, WaitSyscall};
+use types::refusal::Refusal;
+use types::thread::{WAIT_LIST, WaitSyscall};
 use units::{Handle, Nanos, ObjectId, Ticks};
 
 // A time-out of 0 does not wait.
-fn wait_one(block: &mut [u8], c: u32, o: ObjectId, nanos: Nanos, tick: Ticks) -> Outcome
-    requires block_len { length block.old ≡ 16384 }
+fn wait_one(
+    block: &mut Block,
+    c: u32,
+    o: ObjectId,
+    nanos: Nanos,
+    tick: Ticks,
+) -> Result<Outcome, Refusal>
     requires block_value { sound? block.old ≡ true }
     requires block_value_2 { out_of_handles? (dec_block block.old) ≡ false }
-    requires current_thread_value { (dec_block block.old).current_thread ≡ ThreadOption.SomeThread c }
-    ensures value { result ≡ outcome (def.wait1_as (ThreadOption.SomeThread c) (dec_block block.old) o.0 nanos.0 tick.0) }
-    ensures block_after { block.new ≡ left (def.wait1_as (ThreadOption.SomeThread c) (dec_block block.old) o.0 nanos.0 tick.0) block.old }
+    requires current_thread_value { (dec_block block.old).current_thread ≡ Some c }
+    ensures value { result ≡ outcome (def.wait1_as (Some c) (dec_block block.old) o.0 nanos.0 tick.0) }
+    ensures block_after { block.new ≡ left (def.wait1_as (Some c) (dec_block block.old) o.0 nanos.0 tick.0) block.old }
 {
     let x = read::slot_at(block, o);
-    let v = x.object;
-    if wait::signaled(block, v, c) {
-        let found = taken::take(block, o, c);
-        if found != 0 {
-            return outcome::refused(found);
-        }
-        return outcome::done();
+    if wait::signaled(block, x.object, c) {
+        taken::take(block, o, c)?;
+        return Ok(outcome::done());
     }
     if units::is_zero(nanos) {
-        return outcome::answers(17);
+        return Ok(outcome::answers(Answer::TimedOut));
     }
-    let none = ObjectId(0);
-    let mut l = [none; WAIT_LIST];
+    let mut l = [ObjectId(0); WAIT_LIST];
     l[0] = o;
-    begin_wait::begin_wait(
-        block,
-        c,
-        l,
-        1,
-        false,
-        nanos,
-        tick,
-        WaitSyscall::WaitSynchronization1,
-    );
-    outcome::silent()
+    let w = WaitFor {
+        thread: c,
+        list: l,
+        count: 1,
+        all: false,
+        timeout: nanos,
+    };
+    begin_wait::begin_wait(block, w, tick, Some(WaitSyscall::WaitSynchronization1));
+    Ok(outcome::silent())
 }
 
 // The call once the timers have fired and the handle is open: it names o.
-fn wait_opened(block: &mut [u8], r: Registers, o: ObjectId, tick: Ticks) -> Outcome
-    requires block_len { length block.old ≡ 16384 }
+fn wait_opened(
+    block: &mut Block,
+    r: Registers,
+    o: ObjectId,
+    tick: Ticks,
+) -> Result<Outcome, Refusal>
     requires block_value { sound? block.old ≡ true }
     requires block_value_2 { out_of_handles? (dec_block block.old) ≡ false }
     ensures value { result ≡ outcome (wait1_opened (dec_block block.old) o.0 r tick.0) }
     ensures block_after { block.new ≡ left (wait1_opened (dec_block block.old) o.0 r tick.0) block.old }
 {
     if o.0 == 0 {
-        return outcome::answers(16);
+        return Ok(outcome::answers(Answer::UnknownHandle));
     }
-    let current = read::current(block);
-    if types::thread::thread_flag(current) == 0 {
-        return outcome::done();
-    }
-    let c = types::thread::thread_value(current);
-    let nanos = svc::read::pair(r.r2, r.r3);
-    wait_one(block, c, o, nanos, tick)
+    let Some(c) = read::current(block) else {
+        return Ok(outcome::done());
+    };
+    wait_one(block, c, o, svc::read::pair(r.r2, r.r3), tick)
 }
 
 // A pseudo-handle names a thread or the process, of which a wait finds nothing; its object may have to be made.
-fn wait_pseudo(block: &mut [u8], r: Registers, tick: Ticks) -> Outcome
-    requires block_len { length block.old ≡ 16384 }
+fn wait_pseudo(block: &mut Block, r: Registers, tick: Ticks) -> Result<Outcome, Refusal>
     requires block_value { sound? block.old ≡ true }
     requires r0_value { pseudo r.r0 ≡ true }
     ensures value { result ≡ outcome (def.wait_synchronization1 (dec_block block.old) r tick.0) }
     ensures block_after { block.new ≡ left (def.wait_synchronization1 (dec_block block.old) r tick.0) block.old }
 {
-    let a = caught::open_caught(block, Handle(r.r0), tick);
-    if a.found != 0 {
-        return outcome::refused(a.found);
-    }
-    let o = a.object;
+    let o = caught::open_caught(block, Handle(r.r0), tick)?;
     wait_opened(block, r, o, tick)
 }
 
-// r0 handle, r2 and r3 nanoseconds. What the wait finds of the object is looked for before the timers fire, since a finding
-// must leave the block as it was; a timer that fires changes no mutex and no semaphore.
-pub fn wait_synchronization1(block: &mut [u8], r: Registers, tick: Ticks) -> Outcome
-    requires block_len { length block.old ≡ 16384 }
+// r0 handle, r2 and r3 nanoseconds. What the wait finds of the object is looked for before the timers fire, since a
+// finding must leave the block as it was; a timer that fires changes no mutex and no semaphore.
+pub fn wait_synchronization1(
+    block: &mut Block,
+    r: Registers,
+    tick: Ticks,
+) -> Result<Outcome, Refusal>
     requires block_value { sound? block.old ≡ true }
     ensures value { result ≡ outcome (def.wait_synchronization1 (dec_block block.old) r tick.0) }
     ensures block_after { block.new ≡ left (def.wait_synchronization1 (dec_block block.old) r tick.0) block.old }
@@ -103,13 +103,10 @@ pub fn wait_synchronization1(block: &mut [u8], r: Registers, tick: Ticks) -> Out
     }
     let o = read::resolve(block, h);
     if taken::over_now(block, o) {
-        return outcome::refused(8);
+        return Err(Refusal::Overflow);
     }
     let fires = due::timer_due(block, tick);
-    let found = caught::found_before(block, false, fires, tick);
-    if found != 0 {
-        return outcome::refused(found);
-    }
+    caught::found_before(block, false, fires, tick)?;
     caught::catch_up_if(block, fires, tick);
     wait_opened(block, r, o, tick)
 }

@@ -1,4 +1,4 @@
-use Prim.Native.Nat.{ℕ, ◌≤◌, ◌-◌, ◌*◌}
+use Prim.Native.Nat.{ℕ, ◌*◌}
 use mathlib.Core.Path.{◌≡◌}
 use mathlib.Core.List.{List}
 use lib.ListN.{take, drop, replicate}
@@ -10,7 +10,4 @@ abbrev pub invariant-loop-i : goal.invariant-loop-i
 invariant-loop-i l =
     let a = take (l.n * 4) (drop l.at l.s) in
     let z : List ℕ = replicate (l.n * 4) 0 in
-    (l.i ≤ l.n) × (same a z ≡ l.alike and same (drop (l.i * 4) a) (drop (l.i * 4) z))
-
-abbrev pub decreases-loop-i : goal.decreases-loop-i
-decreases-loop-i l = l.n - l.i
+    same a z ≡ l.alike and same (drop (l.i * 4) a) (drop (l.i * 4) z)

@@ -10,5 +10,5 @@ use Rattle.collect.proofs.put_collected.Goals as goal
 pub returns : goal.returns
 returns c = let kind = c.syscall_number-kind.result in
     let v : Two = record { 0 = c.result_number-number.result; 1 = c.result_index-index.result } in
-    let r = next (two_bytes v) 8 (start c.requires) (length_two v) refl c.put_two.ensures in
+    let r = next (two_bytes v) 8 (start c.told-answer) (length_two v) refl c.put_two.ensures in
     whole (next (bytes 4 kind) 4 r (length-bytes 4 kind) refl c.put32.ensures) ∙ rw (c.result_number-number.ensures, c.result_index-index.ensures, c.syscall_number-kind.ensures)

@@ -1,5 +1,5 @@
 use mathlib.Core.Path.{◌≡◌}
-use Prim.Native.Nat.{◌-◌, ◌≤◌}
+use Prim.Native.Nat.{◌≤◌}
 use lib.ListN.{length, take, drop}
 use Rattle.laws.specs.All.{All}
 use Rattle.laws.specs.Tally.{tally_all}
@@ -9,8 +9,7 @@ use Rattle.signal.specs.Marks.{sync_list, sync_lists}
 use Rattle.due.proofs.mark_lists.Given as goal
 
 abbrev pub invariant-loop-i : goal.invariant-loop-i
-invariant-loop-i l =
-    (l.i ≤ 32) × ((tally_all 129 l.m (sync_lists (drop l.i (dec_block l.b).threads)) ≡ tally_all 129 l.initial.m (sync_lists (dec_block l.b).threads)) × All (λ t. length (sync_list t) ≤ wait_list) (take l.i (dec_block l.b).threads))
-
-abbrev pub decreases-loop-i : goal.decreases-loop-i
-decreases-loop-i l = 32 - l.i
+invariant-loop-i l = record {
+  marks : tally_all 129 l.m (sync_lists (drop l.i (dec_block l.b).threads)) ≡ tally_all 129 l.initial.m (sync_lists (dec_block l.b).threads);
+  short : All (λ t. length (sync_list t) ≤ wait_list) (take l.i (dec_block l.b).threads);
+}

@@ -1,12 +1,8 @@
 use mathlib.Core.Path.{◌≡◌}
-use Prim.Native.Nat.{◌-◌, ◌≤◌}
 use lib.ListN.{drop}
 use Rattle.block.specs.Block.{dec_block}
 use Rattle.pass.specs.Timers.{any_over}
 use Rattle.due.proofs.over.Given as goal
 
 abbrev pub invariant-loop-i : goal.invariant-loop-i
-invariant-loop-i l = (l.i ≤ 128) × (any_over l.tick.0 (drop l.i (dec_block l.b).objects.slots) ≡ any_over l.tick.0 (dec_block l.b).objects.slots)
-
-abbrev pub decreases-loop-i : goal.decreases-loop-i
-decreases-loop-i l = 128 - l.i
+invariant-loop-i l = any_over l.tick.0 (drop l.i (dec_block l.b).objects.slots) ≡ any_over l.tick.0 (dec_block l.b).objects.slots

@@ -1,26 +1,13 @@
-use mathlib.Core.Path.{◌≡◌, refl, ap, sym, subst, ◌∙◌}
-use mathlib.Core.Bool.{true}
-use mathlib.Core.List.{List, []}
-use Prim.Native.Nat.{ℕ}
-use lib.ListN.{length, take}
+use Rattle.std.specs.Prelude.{[], ℕ, length}
+use Rattle.std.proofs.Common.{◌∙◌}
 use borrow.Author.Tests.{eq-eqb, ne_eqb}
-use Rattle.laws.specs.Logic.{and_no, and_yes, true-and}
+use Rattle.laws.specs.Logic.{and_no, and_yes}
 use Rattle.types.specs.declared.kernel.Kernel.{Kernel}
-use Rattle.block.specs.Block.{enc_block, dec_block}
-use Rattle.svc.specs.declared.Registers.{Registers}
-use Rattle.svc.specs.declared.Served.{Served}
-use Rattle.svc.specs.Dispatch.{given, refusal, call}
-use Rattle.guest.specs.declared.bank.Made.{Made}
-use Rattle.guest.specs.Word.{word_fits, word_fits_lem, asked}
-use Rattle.guest.specs.Made.{bank_made, bank-made}
-use Rattle.guest_call.specs.Made.{call-made}
-use Rattle.outcome.specs.declared.Outcome.{Outcome}
-use Rattle.outcome.specs.Outcome.{accepted, found-is, outcome-0, left-0, left-found}
+use Rattle.svc.specs.Dispatch.{given, refusal}
 use Rattle.lent.specs.Lent.{Lent, lent, Back, back}
-use Rattle.lent.specs.Operations.{finding}
-use Rattle.lent.specs.Guest.{registers, words_in, served, served_written}
+use Rattle.lent.specs.Guest.{registers, served, served_written}
 use Rattle.lent.specs.Guest as guest
-use Rattle.lent.proofs.Cases.{change-1, change-2, change-own, change-found, change-0, nothing-full}
+use Rattle.lent.proofs.Cases.{change-1}
 use Rattle.guest_call.proofs.operate.Goals as goal
 
 abbrev refused : ℕ → ℕ → Lent → Kernel → ℕ
@@ -32,106 +19,27 @@ work base number tick l = λ k. (served base number tick l k).kernel
 abbrev result : ℕ → ℕ → ℕ → Lent → Kernel → Back
 result base number tick l = λ k. back (served base number tick l k).answer (served_written base number l k (served base number tick l k))
 
-pub returns-then-block-ne16384 : goal.returns-then-block-ne16384
+pub returns-in_default : goal.returns-in_default
 unfolding guest.dispatch
-returns-then-block-ne16384 c = let a = c.args in
+returns-in_default c = let a = c.args in
     let l = lent a.block.now a.bank.now a.processor.now a.window.now [] in
-    change-1 _ (refused a.window_base a.number l) (work a.window_base a.number a.tick.0 l) (result a.window_base a.number a.tick.0 l) l (and_no _ _ (ne_eqb _ 16384 c.if-block-ne16384.true))
+    change-1 _ (refused a.window_base a.number l) (work a.window_base a.number a.tick.0 l) (result a.window_base a.number a.tick.0 l) l (and_no _ _ (ne_eqb _ 16384 c.in_default.ensures.cases))
 
-pub returns-then-bank-ne6656 : goal.returns-then-bank-ne6656
+pub returns-in_default-as_mut_array : goal.returns-in_default-as_mut_array
 unfolding guest.dispatch
-returns-then-bank-ne6656 c = let a = c.args in
+returns-in_default-as_mut_array c = let a = c.args in
     let l = lent a.block.now a.bank.now a.processor.now a.window.now [] in
-    change-1 _ (refused a.window_base a.number l) (work a.window_base a.number a.tick.0 l) (result a.window_base a.number a.tick.0 l) l (and_yes _ _ (eq-eqb _ 16384 c.if-block-ne16384.false) ∙ and_no _ _ (ne_eqb _ 6656 c.if-bank-ne6656.true))
+    let b = c.in-Some.ensures.cases in
+    rw b.same
+    (change-1 _ (refused a.window_base a.number l) (work a.window_base a.number a.tick.0 l) (result a.window_base a.number a.tick.0 l) l
+    (and_yes _ _ (eq-eqb _ 16384 b.long) ∙ and_no _ _ (ne_eqb _ 6656 c.in_default-as_mut_array.ensures.cases)))
 
-pub returns-then-processor-ne208 : goal.returns-then-processor-ne208
+pub returns-in_default-as_mut_array-2 : goal.returns-in_default-as_mut_array-2
 unfolding guest.dispatch
-returns-then-processor-ne208 c = let a = c.args in
+returns-in_default-as_mut_array-2 c = let a = c.args in
     let l = lent a.block.now a.bank.now a.processor.now a.window.now [] in
-    change-1 _ (refused a.window_base a.number l) (work a.window_base a.number a.tick.0 l) (result a.window_base a.number a.tick.0 l) l (and_yes _ _ (eq-eqb _ 16384 c.if-block-ne16384.false) ∙ (and_yes _ _ (eq-eqb _ 6656 c.if-bank-ne6656.false) ∙ and_no _ _ (ne_eqb _ 208 c.if-processor-ne208.true)))
-
-pub returns-then-not-window_ok : goal.returns-then-not-window_ok
-unfolding guest.dispatch
-returns-then-not-window_ok c = let a = c.args in
-    let l = lent a.block.now a.bank.now a.processor.now a.window.now [] in
-    change-1 _ (refused a.window_base a.number l) (work a.window_base a.number a.tick.0 l) (result a.window_base a.number a.tick.0 l) l (and_yes _ _ (eq-eqb _ 16384 c.if-block-ne16384.false) ∙ (and_yes _ _ (eq-eqb _ 6656 c.if-bank-ne6656.false) ∙ (and_yes _ _ (eq-eqb _ 208 c.if-processor-ne208.false) ∙ (sym c.window_ok.ensures ∙ c.if-not-window_ok.true))))
-
-pub returns-then-not-block_ok : goal.returns-then-not-block_ok
-unfolding guest.dispatch
-returns-then-not-block_ok c = let a = c.args in
-    let l = lent a.block.now a.bank.now a.processor.now a.window.now [] in
-    change-2 _ (refused a.window_base a.number l) (work a.window_base a.number a.tick.0 l) (result a.window_base a.number a.tick.0 l) l (true-and _ _ (eq-eqb _ 16384 c.if-block-ne16384.false) (true-and _ _ (eq-eqb _ 6656 c.if-bank-ne6656.false) (true-and _ _ (eq-eqb _ 208 c.if-processor-ne208.false) (sym c.window_ok.ensures ∙ c.if-not-window_ok.false)))) (dec_block a.block.now) refl _ c.block_ok.ensures (c.if-not-block_ok.true)
-
-pub returns-then-refused-ne0 : goal.returns-then-refused-ne0
-unfolding guest.dispatch
-returns-then-refused-ne0 c = let a = c.args in
-    let l = lent a.block.now a.bank.now a.processor.now a.window.now [] in
-    let k = dec_block a.block.now in
-    let r = c.registers_for-r.result in
-    let q : c.refusal-refused.result ≡ refused a.window_base a.number l k =
-    c.refusal-refused.ensures ∙ ap (λ (x : Registers). refusal a.window_base (length a.window.now) a.number x k) c.registers_for-r.ensures in
-    change-own _ (refused a.window_base a.number l) (work a.window_base a.number a.tick.0 l) (result a.window_base a.number a.tick.0 l) l (true-and _ _ (eq-eqb _ 16384 c.if-block-ne16384.false) (true-and _ _ (eq-eqb _ 6656 c.if-bank-ne6656.false) (true-and _ _ (eq-eqb _ 208 c.if-processor-ne208.false) (sym c.window_ok.ensures ∙ c.if-not-window_ok.false)))) (dec_block a.block.now) refl _ c.block_ok.ensures (c.if-not-block_ok.false) _ q c.if-refused-ne0.true
-
-pub words_in-words-requires : goal.words_in-words-requires
-words_in-words-requires c = let a = c.args in
-    let l = lent a.block.now a.bank.now a.processor.now a.window.now [] in
-    let k = dec_block a.block.now in
-    let r = c.registers_for-r.result in
-    let w = asked a.window_base (length a.window.now) a.number r k (sym c.refusal-refused.ensures ∙ c.if-refused-ne0.false) in
-    record { n_value = c.words_read-n.ensures; r_value = w.0; r_value_2 = w.1 }
-
-pub call-o-requires : goal.call-o-requires
-call-o-requires c = record { block_len = c.if-block-ne16384.false; block_value = sym c.block_ok.ensures ∙ c.if-not-block_ok.false }
-
-pub returns-then-o-ne0 : goal.returns-then-o-ne0
-unfolding guest.dispatch
-returns-then-o-ne0 c = let a = c.args in
-    let l = lent a.block.now a.bank.now a.processor.now a.window.now [] in
-    let k = dec_block a.block.now in
-    let r = c.registers_for-r.result in
-    let ws : List ℕ = take c.words_read-n.result c.words_in-words.result in
-    let q : c.refusal-refused.result ≡ refused a.window_base a.number l k =
-    c.refusal-refused.ensures ∙ ap (λ (x : Registers). refusal a.window_base (length a.window.now) a.number x k) c.registers_for-r.ensures in
-    let s : call a.number k r ws a.tick.0 ≡ served a.window_base a.number a.tick.0 l k =
-    ap (λ (x : List ℕ). call a.number k r x a.tick.0) c.words_in-words.ensures ∙ ap (λ (x : Registers). call a.number k x (words_in a.window_base a.window.now a.number x) a.tick.0) c.registers_for-r.ensures in
-    let f : c.call-o.result.found ≡ finding (served a.window_base a.number a.tick.0 l k).kernel = ap (λ (x : Outcome). x.found) c.call-o.ensures.value ∙ found-is (call a.number k r ws a.tick.0) ∙ ap (λ (x : Served). finding x.kernel) s in
-    let e = c.call-o.ensures.block_after ∙ left-found (call a.number k r ws a.tick.0) a.block.now (λ z. c.if-o-ne0.true (f ∙ ap (λ (x : Served). finding x.kernel) (sym s) ∙ z)) in
-    rw e (change-found _ (refused a.window_base a.number l) (work a.window_base a.number a.tick.0 l) (result a.window_base a.number a.tick.0 l) l (true-and _ _ (eq-eqb _ 16384 c.if-block-ne16384.false) (true-and _ _ (eq-eqb _ 6656 c.if-bank-ne6656.false) (true-and _ _ (eq-eqb _ 208 c.if-processor-ne208.false) (sym c.window_ok.ensures ∙ c.if-not-window_ok.false)))) (dec_block a.block.now) refl _ c.block_ok.ensures (c.if-not-block_ok.false) _ q c.if-refused-ne0.false _ f c.if-o-ne0.true)
-
-pub put_bank-requires : goal.put_bank-requires
-put_bank-requires c = let a = c.args in
-    let l = lent a.block.now a.bank.now a.processor.now a.window.now [] in
-    let k = dec_block a.block.now in
-    let r = c.registers_for-r.result in
-    let ws : List ℕ = take c.words_read-n.result c.words_in-words.result in record { bank_len = c.if-bank-ne6656.false; id_bound = rw c.made_by-made.ensures (call-made a.number k r ws a.tick.0 (nothing-full (call a.number k r ws a.tick.0).kernel (sym (found-is (call a.number k r ws a.tick.0)) ∙ sym (ap (λ (x : Outcome). x.found) c.call-o.ensures.value) ∙ c.if-o-ne0.false))) }
-
-pub put_registers-requires : goal.put_registers-requires
-put_registers-requires c = c.if-processor-ne208.false
-
-pub put_word-requires : goal.put_word-requires
-put_word-requires c = let a = c.args in
-    let l = lent a.block.now a.bank.now a.processor.now a.window.now [] in
-    let k = dec_block a.block.now in
-    let r = c.registers_for-r.result in
-    let ws : List ℕ = take c.words_read-n.result c.words_in-words.result in
-    subst (λ (x : Outcome). word_fits a.window_base (length a.window.now) r.r1 x.word ≡ true) (sym (c.call-o.ensures.value ∙ outcome-0 (call a.number k r ws a.tick.0) (sym (found-is (call a.number k r ws a.tick.0)) ∙ sym (ap (λ (x : Outcome). x.found) c.call-o.ensures.value) ∙ c.if-o-ne0.false)))
-    (word_fits_lem a.window_base (length a.window.now) a.number k r ws a.tick.0 (asked a.window_base (length a.window.now) a.number r k (sym c.refusal-refused.ensures ∙ c.if-refused-ne0.false)).1)
-
-pub returns : goal.returns
-unfolding guest.dispatch
-returns c = let a = c.args in
-    let l = lent a.block.now a.bank.now a.processor.now a.window.now [] in
-    let k = dec_block a.block.now in
-    let r = c.registers_for-r.result in
-    let ws : List ℕ = take c.words_read-n.result c.words_in-words.result in
-    let q : c.refusal-refused.result ≡ refused a.window_base a.number l k =
-    c.refusal-refused.ensures ∙ ap (λ (x : Registers). refusal a.window_base (length a.window.now) a.number x k) c.registers_for-r.ensures in
-    let s : call a.number k r ws a.tick.0 ≡ served a.window_base a.number a.tick.0 l k =
-    ap (λ (x : List ℕ). call a.number k r x a.tick.0) c.words_in-words.ensures ∙ ap (λ (x : Registers). call a.number k x (words_in a.window_base a.window.now a.number x) a.tick.0) c.registers_for-r.ensures in
-    let z = (sym (found-is (call a.number k r ws a.tick.0)) ∙ sym (ap (λ (x : Outcome). x.found) c.call-o.ensures.value) ∙ c.if-o-ne0.false) in
-    let z' : finding (served a.window_base a.number a.tick.0 l k).kernel ≡ 0 = ap (λ (x : Served). finding x.kernel) (sym s) ∙ z in
-    let o : c.call-o.result ≡ accepted (served a.window_base a.number a.tick.0 l k) = c.call-o.ensures.value ∙ outcome-0 (call a.number k r ws a.tick.0) z ∙ ap accepted s in
-    let e = c.call-o.ensures.block_after ∙ left-0 (call a.number k r ws a.tick.0) a.block.now z ∙ ap (λ (x : Served). enc_block x.kernel) s in
-    let m = c.put_bank.ensures ∙ ap (λ (x : Made). bank_made a.number a.bank.now x r) c.made_by-made.ensures ∙ bank-made a.number a.bank.now k r in
-    rw (e, m, c.put_registers.ensures, c.put_word.ensures, o, c.registers_for-r.ensures)
-    (change-0 _ (refused a.window_base a.number l) (work a.window_base a.number a.tick.0 l) (result a.window_base a.number a.tick.0 l) l (true-and _ _ (eq-eqb _ 16384 c.if-block-ne16384.false) (true-and _ _ (eq-eqb _ 6656 c.if-bank-ne6656.false) (true-and _ _ (eq-eqb _ 208 c.if-processor-ne208.false) (sym c.window_ok.ensures ∙ c.if-not-window_ok.false)))) (dec_block a.block.now) refl _ c.block_ok.ensures (c.if-not-block_ok.false) _ q c.if-refused-ne0.false 0 (sym z') refl)
+    let b = c.in-Some.ensures.cases in
+    let k = c.in-Some-as_mut_array.ensures.cases in
+    rw (b.same, k.same)
+    (change-1 _ (refused a.window_base a.number l) (work a.window_base a.number a.tick.0 l) (result a.window_base a.number a.tick.0 l) l
+    (and_yes _ _ (eq-eqb _ 16384 b.long) ∙ (and_yes _ _ (eq-eqb _ 6656 k.long) ∙ and_no _ _ (ne_eqb _ 208 c.in_default-as_mut_array-2.ensures.cases))))

@@ -11,8 +11,8 @@ use Rattle.next_event.proofs.put_tick.Goals as goal
 pub returns : goal.returns
 unfolding tick_bytes
 returns c =
-    let n = c.tick_flag-flag.result in
+    let n = c.option_flag-flag.result in
     let v : Two = record { 0 = n; 1 = 0 } in
     let x = c.tick_value-value.result in
-    let r = next (two_bytes v) 8 (start c.requires) (length_two v) refl c.put_two.ensures in
-    whole (next (bytes 8 x) 8 r (length-bytes 8 x) refl c.put64.ensures) ∙ rw (c.tick_flag-flag.ensures, c.tick_value-value.ensures)
+    let r = next (two_bytes v) 8 (start c.told-answer) (length_two v) refl c.put_two.ensures in
+    whole (next (bytes 8 x) 8 r (length-bytes 8 x) refl c.put64.ensures) ∙ rw (c.option_flag-flag.ensures, c.tick_value-value.ensures)

@@ -8,7 +8,7 @@ pub loop-k-init : goal.loop-k-init
 loop-k-init c =
     let n = length c.args.row.now in
     let e : n - 0 ≡ n = omega arith in
-    (omega arith, rw e (turns-cyclic c.args.row.now c.args.p c.args.start c.requires.0 c.requires.1))
+    rw e (turns-cyclic c.args.row.now c.args.p c.args.start c.requires.0 c.requires.1)
 
 pub loop-k-preserved : goal.loop-k-preserved
 loop-k-preserved c =
@@ -17,7 +17,7 @@ loop-k-preserved c =
     let n = length a.row.now in
     let step = turns-step (runs_at a.row.now a.p) n a.start n l.k c.loop-k-test.true in
     let no : runs_at a.row.now a.p ((a.start + l.k) % n) ≡ false = sym c.runs_at.ensures ∙ c.if-runs_at.false in
-    (omega arith, sym (step ∙ pick_no _ _ _ no) ∙ l.invariant.1)
+    sym (step ∙ pick_no _ _ _ no) ∙ l.invariant
 
 pub returns-then-runs_at : goal.returns-then-runs_at
 returns-then-runs_at c =
@@ -26,11 +26,11 @@ returns-then-runs_at c =
     let n = length a.row.now in
     let step = turns-step (runs_at a.row.now a.p) n a.start n l.k c.loop-k-test.true in
     let yes : runs_at a.row.now a.p ((a.start + l.k) % n) ≡ true = sym c.runs_at.ensures ∙ c.if-runs_at.true in
-    sym (step ∙ pick_yes _ _ _ yes) ∙ l.invariant.1
+    sym (step ∙ pick_yes _ _ _ yes) ∙ l.invariant
 
 pub returns : goal.returns
 returns c =
     let a = c.args in
     let l = c.loop-k in
     let n = length a.row.now in
-    sym (turns-end (runs_at a.row.now a.p) n a.start n l.k c.loop-k-test.false) ∙ l.invariant.1
+    sym (turns-end (runs_at a.row.now a.p) n a.start n l.k c.loop-k-test.false) ∙ l.invariant

@@ -24,17 +24,18 @@ all_listed b u = all_dec Listed dec_thread 160 32 b 128 (λ s w. listed s) u
     listed : (s : List ℕ) → Listed (dec_thread s)
     listed s = length-dec_all dec_id 4 wait_list s 80
 
-pub returns-then-not-tables_ok : goal.returns-then-not-tables_ok
-returns-then-not-tables_ok c =
-    let b = c.args.b.now in
-    let u : Bytes b = λ j. omega (arith, c.shared_slice_known-1.given j) in
-    sym (sym (state-same (dec_block b) (block-fits b u) (all_listed b u)) ∙ and_no _ _ (sym c.tables_ok.ensures.value ∙ c.if-not-tables_ok.true))
-
-pub returns : goal.returns
+pub returns-then-tables_ok : goal.returns-then-tables_ok
 unfolding dec_block
-returns c =
+returns-then-tables_ok c =
     let b = c.args.b.now in
-    let u : Bytes b = λ j. omega (arith, c.shared_slice_known-1.given j) in
+    let u : Bytes b = λ j. omega (arith, c.fits-b j) in
     let t = c.tables_ok.ensures in
-    let y = c.if-not-tables_ok.false in
+    let y = c.if-tables_ok.true in
     rw (t.c_after y) at c.store_ok.ensures ∙ sym (sym (state-same (dec_block b) (block-fits b u) (all_listed b u)) ∙ and_yes _ _ (sym t.value ∙ y))
+
+pub returns-else-tables_ok : goal.returns-else-tables_ok
+returns-else-tables_ok c =
+    let b = c.args.b.now in
+    let u : Bytes b = λ j. omega (arith, c.fits-b j) in
+    let y = c.if-tables_ok.false in
+    y ∙ sym (sym (state-same (dec_block b) (block-fits b u) (all_listed b u)) ∙ and_no _ _ (sym c.tables_ok.ensures.value ∙ y))

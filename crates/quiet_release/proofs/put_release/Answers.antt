@@ -10,5 +10,5 @@ use Rattle.quiet_release.proofs.put_release.Goals as goal
 pub returns : goal.returns
 returns c =
     let v : Two = record { 0 = c.release_flag-flag.result; 1 = c.release_object-object.result } in
-    let r = next (two_bytes v) 8 (start c.requires) (length_two v) refl c.put_two.ensures in
+    let r = next (two_bytes v) 8 (start c.told-answer) (length_two v) refl c.put_two.ensures in
     whole (next (bytes 4 c.release_frees-frees.result) 4 r (length-bytes 4 c.release_frees-frees.result) refl c.put32.ensures) ∙ rw (c.release_flag-flag.ensures, c.release_object-object.ensures, c.release_frees-frees.ensures)

@@ -1,5 +1,6 @@
 use mathlib.Core.Path.{◌≡◌, sym, ap}
 use Rattle.block.specs.Block.{dec_block}
+use Rattle.object.specs.Ends.{links}
 use Rattle.release.specs.Encoded.{encoded-holds}
 use Rattle.release.proofs.Released.{links_of, no-records, waiters_are, put-records}
 use Rattle.release.proofs.free_records.Goals as goal
@@ -11,5 +12,6 @@ returns-then-first-eq0 c = let b = c.args.block.now in
 
 pub returns : goal.returns
 returns c = let b = c.args.block.now in
-    let u : c.free_chain-u.result ≡ links_of (dec_block b).objects c.args.first c.args.free = rw (c.get_waiters-ws.ensures, waiters_are b) at c.free_chain-u.ensures in
-    record { value = ap (λ z. z.free) u; holds = rw c.put_waiters.ensures.b_after (put-records b c.requires.encoded c.args.first c.args.free c.free_chain-u.result u c.put_waiters.ensures.l_len) }
+    let l = links c.unlink-u.new.ws c.unlink-u.result in
+    let u : l ≡ links_of (dec_block b).objects c.args.first c.args.free = rw (c.read_all-ws.ensures, waiters_are b) at c.unlink-u.ensures in
+    record { value = ap (λ z. z.free) u; holds = rw c.write_all.ensures.b_after (put-records b c.requires.encoded c.args.first c.args.free l u c.write_all.ensures.l_len) }

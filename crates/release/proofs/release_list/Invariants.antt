@@ -1,14 +1,8 @@
-use mathlib.Core.Path.{◌≡◌}
-use Prim.Native.Nat.{◌-◌, ◌≤◌}
-use lib.ListN.{length, take, drop}
+use Rattle.std.proofs.Common.{drop}
 use Rattle.block.specs.Block.{dec_block}
 use Rattle.sound.specs.View.{ids}
 use Rattle.release.proofs.Released.{Releasing}
-use Rattle.types.specs.Thread.{wait_list}
 use Rattle.release.proofs.release_list.Given as goal
 
-abbrev pub invariant-loop-i : goal.invariant-loop-i
-invariant-loop-i l = (l.i ≤ wait_list) × ((length l.block ≡ 16384) × Releasing (dec_block l.initial.block) (take l.n (ids l.l)) l.block (drop l.i (take l.n (ids l.l))))
-
-abbrev pub decreases-loop-i : goal.decreases-loop-i
-decreases-loop-i l = wait_list - l.i
+abbrev pub invariant-loop-o : goal.invariant-loop-o
+invariant-loop-o l = Releasing (dec_block l.initial.block) (ids l.list) l.block (drop l.o-index (ids l.list))

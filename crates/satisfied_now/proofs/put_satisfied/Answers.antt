@@ -10,6 +10,6 @@ use Rattle.satisfied_now.proofs.put_satisfied.Goals as goal
 pub returns : goal.returns
 returns c =
     let l = c.args.r.objects in
-    let v : Two = record { 0 = c.index_flag-flag.result; 1 = c.index_value-value.result } in
-    let r = next (two_bytes v) 8 (start c.requires) (length_two v) refl c.put_two.ensures in
-    whole (next (enc_all enc_id l) 32 r (length-all enc_id 4 length-enc_id 8 l c.put_ids8.ensures.l_len) refl c.put_ids8.ensures.b_after) ∙ rw (c.index_flag-flag.ensures, c.index_value-value.ensures)
+    let v : Two = record { 0 = c.option_flag-flag.result; 1 = c.option_value-value.result } in
+    let r = next (two_bytes v) 8 (start c.told-answer) (length_two v) refl c.put_two.ensures in
+    whole (next (enc_all enc_id l) 32 r (length-all enc_id 4 length-enc_id 8 l c.write_all.ensures.l_len) refl c.write_all.ensures.b_after) ∙ rw (c.option_flag-flag.ensures, c.option_value-value.ensures)

@@ -1,9 +1,16 @@
-use native.Mathlib.Omega.{arith}
+use Rattle.std.proofs.Common.{arith, ap, ◌∙◌}
+use Rattle.std.specs.Prelude.{◌≡◌, refl, Bool, true, false, ℕ}
+use mir.Val.{bool_byte}
 use Rattle.laws.specs.Logic.{pick}
 use Rattle.codec.specs.Bytes.{bytes}
 use Rattle.codec.proofs.Laws.{length-bytes, over-all}
 use Rattle.schedule.proofs.put_passed.Goals as goal
 
-pub returns : goal.returns
-returns c =
-    let a = c.args in record { bank_after = c.save.ensures; processor_after = rw (← c.save.ensures) c.restore.ensures; answer_after = rw (c.put32.ensures, c.flag.ensures) (over-all a.answer.now (bytes 4 (pick a.switched 1 0)) (omega (arith, length-bytes 4 (pick a.switched 1 0), c.requires))) }
+flag-is : (b : Bool) → bool_byte b ≡ pick b 1 0
+flag-is true = refl
+flag-is false = refl
+
+pub returns-clause-answer_after : goal.returns-clause-answer_after
+returns-clause-answer_after c =
+    let n : ℕ = bool_byte c.args.switched in
+    c.put32.ensures ∙ over-all c.args.answer.now (bytes 4 n) (omega (arith, length-bytes 4 n, c.told-answer)) ∙ ap (bytes 4) (flag-is c.args.switched)

@@ -1,15 +1,32 @@
-use mathlib.Core.Path.{sym, ap, ◌∙◌}
-use lib.Dec.{leb}
+use Rattle.std.proofs.Common.{ap, sym, ◌∙◌}
+use Rattle.std.proofs.lemmas.Result.{err_from_is_err_and}
+use Rattle.std.specs.Prelude.{ℕ, leb}
 use borrow.Author.Tests.{ne_eqb}
 use Rattle.laws.specs.Logic.{◌or◌}
+use Rattle.types.specs.Refusal.{unless_found, refusal-some}
 use Rattle.block.specs.Block.{dec_block}
 use Rattle.lent.specs.Operations.{out_of_handles?}
 use Rattle.outcome.specs.Findings.{found_of}
 use Rattle.spawn.proofs.Made.{create-finding}
 use Rattle.spawn.proofs.create_thread.Goals as goal
 
-pub returns-then-found-ne0 : goal.returns-then-found-ne0
-returns-then-found-ne0 c = let k = dec_block c.args.block.now in record { value = c.found_creating-found.ensures ∙ ap (λ n. found_of (leb 32 n) (leb 4294967295 k.next_guest_id or out_of_handles? k)) c.requires.id_value ∙ sym (create-finding c.args.block.now c.args.entry c.args.stack_top c.args.priority c.args.processor_id); block_after = rw (ne_eqb _ 0 c.if-found-ne0.true) }
+pub returns-in_err-room_to_create : goal.returns-in_err-room_to_create
+returns-in_err-room_to_create c =
+    let a = c.args in
+    let k = dec_block a.block.now in
+    let p = err_from_is_err_and c.from_residual.result c.from_residual.ensures.1 in
+    let e = ap (λ n. found_of (leb 32 n) (leb 4294967295 k.next_guest_id or out_of_handles? k)) c.requires.id_value ∙ sym (create-finding a.block.now a.entry a.stack_top a.priority a.processor_id) in
+    rw (p.1, p.2) record {
+      value = sym c.in_err-room_to_create.was ∙ c.room_to_create.ensures ∙ ap (λ (n : ℕ). unless_found n tt) e;
+      block_after = rw (ne_eqb _ 0 (refusal-some c.in_err-room_to_create.field-0.0));
+    }
 
 pub returns : goal.returns
-returns c = let k = dec_block c.args.block.now in record { value = sym c.if-found-ne0.false ∙ c.found_creating-found.ensures ∙ ap (λ n. found_of (leb 32 n) (leb 4294967295 k.next_guest_id or out_of_handles? k)) c.requires.id_value ∙ sym (create-finding c.args.block.now c.args.entry c.args.stack_top c.args.priority c.args.processor_id); block_after = c.put_created.ensures.same }
+returns c =
+    let a = c.args in
+    let k = dec_block a.block.now in
+    let e = ap (λ n. found_of (leb 32 n) (leb 4294967295 k.next_guest_id or out_of_handles? k)) c.requires.id_value ∙ sym (create-finding a.block.now a.entry a.stack_top a.priority a.processor_id) in
+    record {
+      value = sym c.in_ok-room_to_create.was ∙ c.room_to_create.ensures ∙ ap (λ (n : ℕ). unless_found n tt) e;
+      block_after = c.put_created.ensures.same;
+    }

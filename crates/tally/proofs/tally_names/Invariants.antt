@@ -1,13 +1,8 @@
 use mathlib.Core.Path.{◌≡◌}
-use Prim.Native.Nat.{◌-◌, ◌≤◌}
 use lib.ListN.{drop}
 use Rattle.laws.specs.Tally.{tally}
 use Rattle.tally.specs.Lists.{names}
-use Rattle.types.specs.Thread.{wait_list}
 use Rattle.tally.proofs.tally_names.Given as goal
 
-abbrev pub invariant-loop-i : goal.invariant-loop-i
-invariant-loop-i l = (l.i ≤ wait_list) × (tally 129 l.c (names (drop l.i l.l)) ≡ tally 129 l.initial.c (names l.l))
-
-abbrev pub decreases-loop-i : goal.decreases-loop-i
-decreases-loop-i l = wait_list - l.i
+abbrev pub invariant-loop-o : goal.invariant-loop-o
+invariant-loop-o l = tally 129 l.c (names (drop l.o-index l.fn.l)) ≡ tally 129 l.fn.c (names l.fn.l)

@@ -1,15 +1,16 @@
-use mathlib.Core.Path.{refl}
-use Rattle.tries.proofs.Turns.{none_over}
+use Rattle.std.proofs.Common.{ap, refl}
+use Rattle.std.specs.Prelude.{Bool}
+use Rattle.laws.specs.Logic.{pick}
+use Rattle.types.specs.Refusal.{unless_found}
+use Rattle.block.specs.Block.{dec_block}
+use Rattle.tries.proofs.Turns.{none_over, took-same}
 use Rattle.tries.proofs.take_for.Goals as goal
 
 pub returns-in-Stays : goal.returns-in-Stays
-returns-in-Stays c = rw c.in-Stays.is record { value = none_over c.args.block.now; block_after = (λ _. refl); block_after_2 = c.requires.block_value }
-
-pub returns-in-Given : goal.returns-in-Given
-returns-in-Given c = rw c.in-Given.is (record { value = c.take_given.ensures.value; block_after = c.take_given.ensures.block_after; block_after_2 = c.take_given.ensures.block_after_2 })
-
-pub returns-in-TimedOut : goal.returns-in-TimedOut
-returns-in-TimedOut c = rw c.in-TimedOut.is record { value = none_over c.args.block.now; block_after = (λ _. refl); block_after_2 = c.requires.block_value }
-
-pub returns-in-Slept : goal.returns-in-Slept
-returns-in-Slept c = rw c.in-Slept.is record { value = none_over c.args.block.now; block_after = (λ _. refl); block_after_2 = c.requires.block_value }
+returns-in-Stays c =
+    let b = c.args.block.now in
+    rw (took-same c.args.f c.in-Stays.is (dec_block b).objects c.args.t c.args.w) record {
+      value = ap (λ (v : Bool). unless_found (pick v 8 0) tt) (none_over b);
+      block_after = λ _. refl;
+      block_after_2 = c.requires.block_value;
+    }

@@ -1,7 +1,6 @@
-use mathlib.Core.Path.{refl, sym, ap, ◌∙◌}
-use Prim.Native.Nat.{◌+◌, ◌≤◌, ◌<◌}
-use native.Mathlib.Omega.{arith}
-use lib.ListN.{length, drop}
+use Rattle.std.proofs.Common.{ap, sym, ◌∙◌, arith}
+use Rattle.std.specs.Prelude.{◌+◌, ◌≤◌, ◌<◌, length}
+use Rattle.std.proofs.Common.{drop}
 use Rattle.laws.specs.Tally.{tally}
 use Rattle.types.specs.declared.thread.Thread.{Thread}
 use Rattle.block.specs.Block.{dec_block}
@@ -9,23 +8,21 @@ use Rattle.sound.specs.Tls.{held, held-end}
 use Rattle.tally.specs.Lists.{slot_of}
 use Rattle.tally.proofs.Held.{tally-held}
 use Rattle.rows.specs.Sizes.{size-threads}
-use borrow.Author.Rules.{rules}
 use Rattle.vacant.proofs.mark_slots.Goals as goal
 
-pub loop-i-init : goal.loop-i-init
-loop-i-init c = (search rules, refl)
-
 pub loop-i-preserved : goal.loop-i-preserved
-loop-i-preserved c = let l = c.loop-i in
+loop-i-preserved c =
+    let l = c.loop-i in
     let ts = (dec_block c.args.b.now).threads in
     let n = size-threads c.args.b.now in
     let h : l.i < length ts = omega arith in
-    (search rules, ap (λ x. tally 129 x (held (drop (l.i + 1) ts))) (c.tally_slot.ensures ∙ ap (λ (t : Thread). tally 129 l.m (slot_of t)) c.thread_at-t.ensures) ∙ sym (tally-held ts l.i h 129 l.m) ∙ l.invariant.1)
+    ap (λ x. tally 129 x (held (drop (l.i + 1) ts))) (c.tally_slot.ensures ∙ ap (λ (t : Thread). tally 129 l.m (slot_of t)) c.thread_at.ensures) ∙ sym (tally-held ts l.i h 129 l.m) ∙ l.invariant
 
 pub returns : goal.returns
 unfolding tally
-returns c = let l = c.loop-i in
+returns c =
+    let l = c.loop-i in
     let ts = (dec_block c.args.b.now).threads in
     let n = size-threads c.args.b.now in
     let e : length ts ≤ l.i = omega arith in
-    sym (ap (tally 129 l.m) (held-end ts l.i e)) ∙ l.invariant.1
+    sym (ap (tally 129 l.m) (held-end ts l.i e)) ∙ l.invariant

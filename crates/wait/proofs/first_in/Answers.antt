@@ -1,34 +1,20 @@
-use mathlib.Core.Path.{refl, sym, ◌∙◌}
-use native.Mathlib.Omega.{arith}
-use Rattle.laws.specs.Logic.{pick_yes, pick_no}
-use Rattle.object.proofs.Laws.{list_at, list-end, list_over}
-use Rattle.wait.specs.Looks.{first_where}
-use borrow.Author.Rules.{rules}
+use Rattle.std.proofs.Common.{sym, rules, tests, ◌∙◌}
+use Rattle.std.proofs.lemmas.Iterator.{YieldsList-from_slice}
+use Rattle.std.proofs.lemmas.Iterator.Search.{position_from_yields_List}
+use Rattle.block.specs.Block.{dec_block}
+use Rattle.wait.proofs.Place.{wanted, first-place}
 use Rattle.wait.proofs.first_in.Goals as goal
 
-pub loop-i-init : goal.loop-i-init
-loop-i-init c = (search rules, refl)
-
-pub returns-then-n-i : goal.returns-then-n-i
-unfolding first_where
-returns-then-n-i c = let l = c.loop-i in rw (list-end _ _ _ c.if-n-i.true) at l.invariant.1
-
-pub returns-then-as_wanted : goal.returns-then-as_wanted
-unfolding first_where
-returns-then-as_wanted c = let l = c.loop-i in
+pub returns-in_err-i : goal.returns-in_err-i
+returns-in_err-i c =
     let a = c.args in
-    let h = list_at a.l a.n l.i c.if-n-i.false (omega (arith, c.well_formed)) in
-    sym (pick_yes _ _ _ (sym c.as_wanted.ensures ∙ c.if-as_wanted.true)) ∙ rw h at l.invariant.1
-
-pub loop-i-preserved : goal.loop-i-preserved
-unfolding first_where
-loop-i-preserved c = let l = c.loop-i in
-    let a = c.args in
-    let h = list_at a.l a.n l.i c.if-n-i.false (omega (arith, c.well_formed)) in
-    (search rules, sym (pick_no _ _ _ (sym c.as_wanted.ensures ∙ c.if-as_wanted.false)) ∙ rw h at l.invariant.1)
+    let k = dec_block a.block.now in
+    let e = position_from_yields_List (wanted k.threads k.objects.slots a.w a.want) _ _ c.position.result c.position.ensures.ran (YieldsList-from_slice a.list.now cc) (λ x b q k. search (rules, tests)) in
+    c.from_residual.ensures ∙ sym c.in_err-i.was ∙ e ∙ sym (first-place k.threads k.objects.slots a.w a.want a.list.now)
 
 pub returns : goal.returns
-unfolding first_where
-returns c = let l = c.loop-i in
+returns c =
     let a = c.args in
-    rw (list_over a.l a.n l.i (omega (arith, c.well_formed, c.loop-i-test))) at l.invariant.1
+    let k = dec_block a.block.now in
+    let e = position_from_yields_List (wanted k.threads k.objects.slots a.w a.want) _ _ c.position.result c.position.ensures.ran (YieldsList-from_slice a.list.now cc) (λ x b q k. search (rules, tests)) in
+    sym c.in_ok-i.was ∙ e ∙ sym (first-place k.threads k.objects.slots a.w a.want a.list.now)

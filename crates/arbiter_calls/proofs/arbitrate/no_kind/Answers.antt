@@ -1,9 +1,15 @@
 use mathlib.Core.Path.{sym, ◌∙◌}
+use Rattle.std.proofs.lemmas.Result.{err_from_is_err_and}
 use Rattle.arbiter_calls.proofs.ByKind.{answers-over, answers-same}
 use Rattle.arbiter_calls.proofs.arbitrate.no_kind.Goals as goal
 
-pub returns-then-out_of_handles : goal.returns-then-out_of_handles
-returns-then-out_of_handles c = rw c.refused.ensures (let w' = (answers-over c.args.block.now 18 (sym c.out_of_handles.ensures ∙ c.if-out_of_handles.true)) in record { value = w'.0; block_value_2 = w'.1 })
+pub returns-in_err-room : goal.returns-in_err-room
+returns-in_err-room c =
+    let w' = answers-over c.args.block.now 18 _ (rw c.out_of_handles.ensures at (sym c.room.ensures ∙ c.in_err-room.was)) in
+    let p = err_from_is_err_and c.from_residual.result c.from_residual.ensures.1 in
+    rw (p.1, p.2) record { value = w'.0; block_value_2 = w'.1 }
 
 pub returns : goal.returns
-returns c = rw c.answers.ensures (let w' = (answers-same c.args.block.now 18 c.requires.block_value (sym c.out_of_handles.ensures ∙ c.if-out_of_handles.false)) in record { value = w'.0; block_value_2 = w'.1 })
+returns c =
+    let w' = answers-same c.args.block.now 18 c.requires.block_value _ (rw c.out_of_handles.ensures at (sym c.room.ensures ∙ c.in_ok-room.was)) in
+    rw c.answers.ensures record { value = w'.0; block_value_2 = w'.1 }

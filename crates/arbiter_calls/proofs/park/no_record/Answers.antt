@@ -4,11 +4,11 @@ use Rattle.laws.specs.Logic.{and-end, and-false}
 use Rattle.arbiter_calls.proofs.Found.{free-is}
 use Rattle.arbiter_calls.proofs.park.no_record.Goals as goal
 
-pub returns-then-get32-ne0 : goal.returns-then-get32-ne0
-returns-then-get32-ne0 c = let f = c.get32.ensures ∙ free-is c.args.block.now in
-    rw (← f, ne_eqb c.get32.result 0 c.if-get32-ne0.true, and-false)
+pub returns-else-get32-eq0 : goal.returns-else-get32-eq0
+returns-else-get32-eq0 c = let f = c.get32.ensures ∙ free-is c.args.block.now in
+    rw (← f, ne_eqb c.get32.result 0 c.if-get32-eq0.false, and-false)
 
-pub returns : goal.returns
-returns c = let f = c.get32.ensures ∙ free-is c.args.block.now in
-    rw (← f, eq-eqb c.get32.result 0 c.if-get32-ne0.false, and-end)
-    (c.stores_as.ensures ∙ rw (c.current-current.ensures, c.open_object.ensures))
+pub returns-then-get32-eq0 : goal.returns-then-get32-eq0
+returns-then-get32-eq0 c = let f = c.get32.ensures ∙ free-is c.args.block.now in
+    rw (← f, eq-eqb c.get32.result 0 c.if-get32-eq0.true, and-end)
+    (c.stores_as.ensures ∙ rw (c.current.ensures, c.open_object.ensures))

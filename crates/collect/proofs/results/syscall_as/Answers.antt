@@ -1,7 +1,7 @@
 use Rattle.collect.proofs.results.syscall_as.Goals as goal
 
-pub returns-in-NoThread : goal.returns-in-NoThread
-returns-in-NoThread c = rw c.in-NoThread.is
+pub returns-in-None : goal.returns-in-None
+returns-in-None c = rw c.in-None.is
 
-pub returns-in-SomeThread : goal.returns-in-SomeThread
-returns-in-SomeThread c = rw c.in-SomeThread.is c.syscall_at.ensures
+pub returns-in-Some : goal.returns-in-Some
+returns-in-Some c = rw c.in-Some.is c.syscall_at.ensures

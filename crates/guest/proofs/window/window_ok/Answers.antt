@@ -1,15 +1,24 @@
-use borrow.Author.Tests.{eq-eqb, ne_eqb, lt-leb, le-leb}
-use Rattle.laws.specs.Logic.{◌and◌}
+use Rattle.std.proofs.Common.{◌≡◌, Bool, true, false, refl, sym, ◌∙◌, length, ◌+◌, ◌%◌, rules}
+use lib.Dec.{eqb, leb}
+use Rattle.laws.specs.Logic.{◌and◌, and-true}
 use Rattle.guest.proofs.window.window_ok.Goals as goal
 
-pub returns-then-n-gt65536 : goal.returns-then-n-gt65536
+fails : (a b c : Bool) → a and b ≡ false → false ≡ a and (b and c)
 unfolding ◌and◌
-returns-then-n-gt65536 c = rw (lt-leb _ 65536 c.if-n-gt65536.true)
+fails true b c e = sym (rw e refl)
+fails false b c e = refl
 
-pub returns-then-n-ne0 : goal.returns-then-n-ne0
+pub returns-then-n-eq0 : goal.returns-then-n-eq0
 unfolding ◌and◌
-returns-then-n-ne0 c = rw (le-leb _ 65536 c.if-n-gt65536.false, ne_eqb _ 0 c.if-n-ne0.true)
+returns-then-n-eq0 c =
+    let n = length c.args.window.now in
+    let f : c.if-n-le65536.value ≡ (leb n 65536 and eqb (n % 4) 0) = search rules in
+    let p = and-true (leb n 65536) (eqb (n % 4) 0) (sym f ∙ c.if-n-eq0.true) in
+    rw (p.0, p.1)
 
-pub returns : goal.returns
+pub returns-else-n-eq0 : goal.returns-else-n-eq0
 unfolding ◌and◌
-returns c = rw (le-leb _ 65536 c.if-n-gt65536.false, eq-eqb _ 0 c.if-n-ne0.false)
+returns-else-n-eq0 c =
+    let n = length c.args.window.now in
+    let f : c.if-n-le65536.value ≡ (leb n 65536 and eqb (n % 4) 0) = search rules in
+    c.if-n-eq0.false ∙ fails (leb n 65536) (eqb (n % 4) 0) (leb (c.args.base + n) 4294967296) (sym f ∙ c.if-n-eq0.false)

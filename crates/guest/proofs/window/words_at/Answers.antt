@@ -14,13 +14,12 @@ loop-i-init c = search rules
 
 pub loop-i-preserved : goal.loop-i-preserved
 loop-i-preserved c =
-    let a = c.args in
     let l = c.loop-i in
     let h : l.i < length l.l = omega arith in
-    (search rules, search rules, cc (fill_more num 4 l.i a.window.now a.at l.l h l.invariant.2))
+    (search rules, cc (fill_more num 4 l.i c.args.window.now c.args.at l.l h l.invariant.1))
 
 pub returns : goal.returns
 returns c =
     let l = c.loop-i in
     let e : l.i ≡ c.args.n = omega arith in
-    rw e at l.invariant.2
+    rw e at l.invariant.1

@@ -1,5 +1,4 @@
 use mathlib.Core.Path.{◌≡◌}
-use Prim.Native.Nat.{◌-◌, ◌≤◌}
 use lib.ListN.{length, take}
 use Rattle.codec.specs.Bytes.{num}
 use Rattle.codec.specs.Layout.{dec_all}
@@ -7,7 +6,4 @@ use Rattle.types.specs.Thread.{wait_list}
 use Rattle.guest.proofs.window.words_at.Given as goal
 
 abbrev pub invariant-loop-i : goal.invariant-loop-i
-invariant-loop-i l = (l.i ≤ l.n) × (length l.l ≡ wait_list) × (take l.i l.l ≡ dec_all num 4 l.i l.window l.at)
-
-abbrev pub decreases-loop-i : goal.decreases-loop-i
-decreases-loop-i l = l.n - l.i
+invariant-loop-i l = (length l.l ≡ wait_list) × (take l.i l.l ≡ dec_all num 4 l.i l.window l.at)

@@ -11,8 +11,8 @@ pub returns-then-n-eq0 : goal.returns-then-n-eq0
 unfolding dec_all
 returns-then-n-eq0 c = rw (sym c.requires.n_value ∙ c.if-n-eq0.true, c.if-n-eq0.true)
 
-pub overflow_sub-from : goal.overflow_sub-from
-overflow_sub-from c =
+pub overflow_sub-r : goal.overflow_sub-r
+overflow_sub-r c =
     let a = c.args in
     let p = c.requires in
     let h : a.base ≤ a.r.r1 = (room a.base (length a.window.now) a.number a.r p.r_value_2 (λ z. c.if-n-eq0.false (p.n_value ∙ z))).0 in

@@ -8,7 +8,7 @@ use borrow.Author.Rules.{rules}
 use Rattle.handle_calls.proofs.close.remove_entry.Goals as goal
 
 pub loop-j-init : goal.loop-j-init
-loop-j-init c = (omega (arith, c.requires.i_bound), (c.requires.block_len, remove-none c.args.block.now c.requires.encoded c.args.i))
+loop-j-init c = (omega (arith, c.requires.i_bound), (c.told-block, remove-none c.args.block.now c.requires.encoded c.args.i))
 
 pub loop-j-preserved : goal.loop-j-preserved
 loop-j-preserved c = let l = c.loop-j in

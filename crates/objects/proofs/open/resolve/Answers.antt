@@ -26,5 +26,5 @@ unfolding resolve
 returns c = let b = c.args.block.now in
     let p : Opens (dec_block b) (resolved (dec_block b) c.args.h.0) b b c.there.result =
     rw (ne_eqb _ 0xFFFF8000 c.if-n.false, ne_eqb _ 0xFFFF8001 c.if-n-2.false)
-    (opens_same b c.requires.block_value _ c.there.result refl (ap (λ (x : ObjectId). x.0) c.there.ensures.object_value ∙ c.resolve-o.ensures) c.there.ensures.found_value) in
+    (opens_same b c.requires.block_value _ c.there.result _ refl c.resolve-o.ensures c.there.ensures) in
     record { opens = p; block_after = opened-block b c.requires.block_value c.args.h.0 _ _ p }

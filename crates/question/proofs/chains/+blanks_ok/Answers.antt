@@ -1,28 +1,27 @@
-use mathlib.Core.Path.{◌∙◌}
-use native.Mathlib.Omega.{arith}
-use Rattle.laws.specs.Walk.{walk-nil, walk-out}
+use mathlib.Core.Path.{sym, ◌∙◌}
+use borrow.Author.Tests.{eq-eqb, ne_eqb}
+use Rattle.laws.specs.Logic.{◌and◌}
 use Rattle.sound.specs.Records.{blanks?}
-use Rattle.question.specs.ObjectSteps.{blank-thread, blank-address, blank-go}
+use Rattle.tally.specs.Chain.{walk-end}
+use Rattle.question.specs.ObjectSteps.{blanks-step}
 use Rattle.question.proofs.chains.+blanks_ok.Goals as goal
+use Rattle.question.proofs.chains.+blanks_ok.Goals.{then-cell-ne0-via-then-cell-ne0, then-cell-ne0-via-else-cell-ne0+then-cell-ne0-2}
 
 pub returns-then-at-eq0 : goal.returns-then-at-eq0
 unfolding blanks?
-returns-then-at-eq0 t c = rw (walk-nil _ _ _ c.if-at-eq0.true)
-
-pub returns-then-left-eq0 : goal.returns-then-left-eq0
-unfolding blanks?
-returns-then-left-eq0 t c = rw (walk-out _ _ _ c.if-left-eq0.true)
+returns-then-at-eq0 t c = rw (walk-end _ _ _ c.then-at-eq0.either)
 
 pub returns-then-cell-ne0 : goal.returns-then-cell-ne0
-returns-then-cell-ne0 t c = blank-thread _ _ _ _ _ c.if-left-eq0.false c.if-at-eq0.false _ c.cell.ensures c.if-cell-ne0.true
-
-pub returns-then-cell-ne0-2 : goal.returns-then-cell-ne0-2
-returns-then-cell-ne0-2 t c =
-    blank-address _ _ _ _ _ c.if-left-eq0.false c.if-at-eq0.false _ c.cell.ensures _ c.cell-2.ensures c.if-cell-ne0.false c.if-cell-ne0-2.true
-
-pub blanks_ok-requires : goal.blanks_ok-requires
-blanks_ok-requires t c = (omega arith, tt)
+unfolding ◌and◌
+returns-then-cell-ne0 t c =
+    sym (blanks-step _ _ _ _ _ c.if-left-eq0.false c.if-at-eq0.false ∙ elim c.then-cell-ne0.branch [
+      | then-cell-ne0-via-then-cell-ne0 w ↦ rw (← c.cell.ensures, ne_eqb _ _ w.if-cell-ne0.true)
+      | then-cell-ne0-via-else-cell-ne0+then-cell-ne0-2 w ↦
+          rw (← c.cell.ensures, eq-eqb _ _ w.if-cell-ne0.false, ← w.cell-else-cell-ne0.ensures, ne_eqb _ _ w.if-cell-ne0-2.true)
+    ])
 
 pub returns : goal.returns
+unfolding ◌and◌
 returns t c =
-    c.blanks_ok.ensures ∙ blank-go _ _ _ _ _ c.if-left-eq0.false c.if-at-eq0.false _ c.cell.ensures _ c.cell-2.ensures _ c.cell-3.ensures c.if-cell-ne0.false c.if-cell-ne0-2.false
+    c.blanks_ok.ensures ∙ sym (blanks-step _ _ _ _ _ c.if-left-eq0.false c.if-at-eq0.false
+    ∙ rw (← c.cell.ensures, eq-eqb _ _ c.if-cell-ne0.false, ← c.cell-else-cell-ne0.ensures, eq-eqb _ _ c.if-cell-ne0-2.false, ← c.cell-2.ensures))

@@ -1,30 +1,26 @@
 use mathlib.Core.Path.{sym, ◌∙◌}
-use native.Mathlib.Omega.{arith}
-use Rattle.laws.specs.Walk.{walk-nil, walk-out}
+use borrow.Author.Tests.{le-ltb, lt-ltb}
+use Rattle.laws.specs.Logic.{◌and◌}
 use Rattle.sound.specs.Records.{chain?}
-use Rattle.question.specs.ObjectSteps.{chain-thread, chain-twice, chain-go}
+use Rattle.tally.specs.Chain.{walk-end}
+use Rattle.question.specs.ObjectSteps.{chain-step}
 use Rattle.question.proofs.chains.+chain_ok.Goals as goal
+use Rattle.question.proofs.chains.+chain_ok.Goals.{then-n-t-via-then-n-t, then-n-t-via-else-n-t+then-has_record}
 
 pub returns-then-at-eq0 : goal.returns-then-at-eq0
 unfolding chain?
-returns-then-at-eq0 t c = rw (walk-nil _ _ _ c.if-at-eq0.true)
-
-pub returns-then-left-eq0 : goal.returns-then-left-eq0
-unfolding chain?
-returns-then-left-eq0 t c = rw (walk-out _ _ _ c.if-left-eq0.true)
+returns-then-at-eq0 t c = rw (walk-end _ _ _ c.then-at-eq0.either)
 
 pub returns-then-n-t : goal.returns-then-n-t
-returns-then-n-t t c = chain-thread _ _ _ _ _ c.if-left-eq0.false c.if-at-eq0.false _ c.cell-t.ensures _ (omega arith)
-
-pub returns-then-has_record : goal.returns-then-has_record
-returns-then-has_record t c =
-    let h = sym c.has_record.ensures ∙ c.if-has_record.true in
-    chain-twice _ _ _ _ _ c.if-left-eq0.false c.if-at-eq0.false _ c.cell-t.ensures _ c.cell.ensures _ c.cell-next.ensures _ (omega arith) h
-
-pub chain_ok-requires : goal.chain_ok-requires
-chain_ok-requires t c = (omega arith, tt)
+unfolding ◌and◌
+returns-then-n-t t c =
+    sym (chain-step _ _ _ _ _ c.if-left-eq0.false c.if-at-eq0.false _ ∙ rw (← c.cell-t.ensures, ← c.cell-a.ensures, ← c.cell-next.ensures) (elim c.then-n-t.branch [
+      | then-n-t-via-then-n-t w ↦ rw (le-ltb _ _ w.if-n-t.true)
+      | then-n-t-via-else-n-t+then-has_record w ↦ rw (lt-ltb _ _ w.if-n-t.false, sym w.has_record.ensures ∙ w.if-has_record.true)
+    ]))
 
 pub returns : goal.returns
+unfolding ◌and◌
 returns t c =
-    let h = sym c.has_record.ensures ∙ c.if-has_record.false in
-    c.chain_ok.ensures ∙ chain-go _ _ _ _ _ c.if-left-eq0.false c.if-at-eq0.false _ c.cell-t.ensures _ c.cell.ensures _ c.cell-next.ensures _ (omega arith) h
+    c.chain_ok.ensures ∙ sym (chain-step _ _ _ _ _ c.if-left-eq0.false c.if-at-eq0.false _
+    ∙ rw (← c.cell-t.ensures, ← c.cell-a.ensures, ← c.cell-next.ensures, lt-ltb _ _ c.if-n-t.false, sym c.has_record.ensures ∙ c.if-has_record.false))

@@ -8,12 +8,9 @@ use Rattle.sound.specs.Handles.{rising?}
 use Rattle.question.proofs.handles.handles_ok.Given as goal
 
 abbrev pub invariant-loop-i : goal.invariant-loop-i
-invariant-loop-i l =
-    (l.n ≡ l.count)
-    × ((l.i ≤ l.n)
-    × ((rising? (l.count - l.i) l.low (drop l.i (entries_in l.b)) l.end ≡ rising? l.count 0x10000 (entries_in l.b) l.end)
-    × ((tally 129 l.c (handle_names (drop l.i (entries_in l.b))) ≡ tally 129 l.initial.c (handle_names (entries_in l.b)))
-    × ((length l.c ≡ 129) × ((j : ℕ) → get_or l.c j 0 ≤ l.i)))))
-
-abbrev pub decreases-loop-i : goal.decreases-loop-i
-decreases-loop-i l = l.n - l.i
+invariant-loop-i l = record {
+  handles : rising? (l.count - l.i) l.low (drop l.i (entries_in l.b)) l.next.0 ≡ rising? l.count 0x10000 (entries_in l.b) l.next.0;
+  names : tally 129 l.c (handle_names (drop l.i (entries_in l.b))) ≡ tally 129 l.initial.c (handle_names (entries_in l.b));
+  made : length l.c ≡ 129;
+  low_counts : (j : ℕ) → get_or l.c j 0 ≤ l.i;
+}

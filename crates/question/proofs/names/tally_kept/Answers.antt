@@ -1,4 +1,4 @@
-use mathlib.Core.Path.{◌≡◌, refl, sym, ◌∙◌}
+use mathlib.Core.Path.{◌≡◌, sym, ◌∙◌}
 use Prim.Native.Nat.{◌≤◌, ◌<◌}
 use native.Mathlib.Omega.{arith}
 use lib.ListN.{length}
@@ -8,11 +8,7 @@ use Rattle.block.specs.Tables.{kept_in, row_at}
 use Rattle.codec.proofs.Fit.{length-dec_all}
 use Rattle.units.specs.declared.ObjectId.{ObjectId}
 use Rattle.tally.specs.Lists.{name_of}
-use borrow.Author.Rules.{rules}
 use Rattle.question.proofs.names.tally_kept.Goals as goal
-
-pub loop-i-init : goal.loop-i-init
-loop-i-init c = (search rules, refl)
 
 pub loop-i-preserved : goal.loop-i-preserved
 loop-i-preserved c =
@@ -20,12 +16,12 @@ loop-i-preserved c =
     let b = c.args.b.now in
     let n : length (kept_in b) ≡ 32 = length-dec_all dec_id 4 32 b 13184 in
     let h : l.i < length (kept_in b) = omega arith in
-    let t = c.kept_at-o.ensures ∙ row_at dec_id 4 (record { 0 = 0 }) 32 b 13184 l.i (omega arith) in
-    (search rules, rw (c.bump_at.ensures, c.name-n.ensures, t) (sym (tally-more 129 (λ (o : ObjectId). name_of o.0) (kept_in b) l.i (record { 0 = 0 }) l.c h) ∙ l.invariant.1))
+    let t = c.kept_at.ensures ∙ row_at dec_id 4 (record { 0 = 0 }) 32 b 13184 l.i (omega arith) in
+    rw (c.bump_at.ensures, c.name.ensures, t) (sym (tally-more 129 (λ (o : ObjectId). name_of o.0) (kept_in b) l.i (record { 0 = 0 }) l.c h) ∙ l.invariant)
 
 pub returns : goal.returns
 returns c =
     let l = c.loop-i in
     let b = c.args.b.now in
     let e : length (kept_in b) ≤ l.i = omega (arith, length-dec_all dec_id 4 32 b 13184) in
-    sym (tally-none 129 (λ (o : ObjectId). name_of o.0) (kept_in b) l.c l.i e) ∙ l.invariant.1
+    sym (tally-none 129 (λ (o : ObjectId). name_of o.0) (kept_in b) l.c l.i e) ∙ l.invariant

@@ -1,5 +1,4 @@
 use mathlib.Core.Path.{◌≡◌}
-use Prim.Native.Nat.{◌-◌, ◌≤◌}
 use lib.ListN.{drop}
 use Rattle.laws.specs.Tally.{tally}
 use Rattle.block.specs.Tables.{kept_in}
@@ -7,7 +6,4 @@ use Rattle.tally.specs.Lists.{names}
 use Rattle.question.proofs.names.tally_kept.Given as goal
 
 abbrev pub invariant-loop-i : goal.invariant-loop-i
-invariant-loop-i l = (l.i ≤ 32) × (tally 129 l.c (names (drop l.i (kept_in l.b))) ≡ tally 129 l.initial.c (names (kept_in l.b)))
-
-abbrev pub decreases-loop-i : goal.decreases-loop-i
-decreases-loop-i l = 32 - l.i
+invariant-loop-i l = tally 129 l.c (names (drop l.i (kept_in l.b))) ≡ tally 129 l.initial.c (names (kept_in l.b))

@@ -1,4 +1,4 @@
-use mathlib.Core.Path.{◌≡◌, refl, sym, ◌∙◌}
+use mathlib.Core.Path.{◌≡◌, sym, ◌∙◌}
 use Prim.Native.Nat.{◌≤◌, ◌<◌}
 use native.Mathlib.Omega.{arith}
 use lib.ListN.{length}
@@ -9,11 +9,7 @@ use Rattle.codec.proofs.Fit.{length-dec_all}
 use Rattle.types.specs.declared.thread.Thread.{Thread}
 use Rattle.sound.specs.View.{no_thread}
 use Rattle.tally.specs.Lists.{names}
-use borrow.Author.Rules.{rules}
 use Rattle.question.proofs.names.tally_lists.Goals as goal
-
-pub loop-i-init : goal.loop-i-init
-loop-i-init c = (search rules, refl)
 
 pub loop-i-preserved : goal.loop-i-preserved
 loop-i-preserved c =
@@ -21,12 +17,12 @@ loop-i-preserved c =
     let b = c.args.b.now in
     let n : length (threads_in b) ≡ 32 = length-dec_all dec_thread 160 32 b 128 in
     let h : l.i < length (threads_in b) = omega arith in
-    let t = c.thread_at-t.ensures ∙ row_at dec_thread 160 no_thread 32 b 128 l.i (omega arith) in
-    (search rules, rw (c.tally_names.ensures.c_after, t) (sym (tally_all-more 129 (λ (x : Thread). names x.wait_objects) (threads_in b) l.i no_thread l.c h) ∙ l.invariant.1))
+    let t = c.thread_at.ensures ∙ row_at dec_thread 160 no_thread 32 b 128 l.i (omega arith) in
+    rw (c.tally_names.ensures.c_after, t) (sym (tally_all-more 129 (λ (x : Thread). names x.wait_objects) (threads_in b) l.i no_thread l.c h) ∙ l.invariant)
 
 pub returns : goal.returns
 returns c =
     let l = c.loop-i in
     let b = c.args.b.now in
     let e : length (threads_in b) ≤ l.i = omega (arith, length-dec_all dec_thread 160 32 b 128) in
-    sym (tally_all-none 129 (λ (x : Thread). names x.wait_objects) (threads_in b) l.c l.i e) ∙ l.invariant.1
+    sym (tally_all-none 129 (λ (x : Thread). names x.wait_objects) (threads_in b) l.c l.i e) ∙ l.invariant

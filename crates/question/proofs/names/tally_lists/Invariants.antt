@@ -1,5 +1,4 @@
 use mathlib.Core.Path.{◌≡◌}
-use Prim.Native.Nat.{◌-◌, ◌≤◌}
 use lib.ListN.{drop}
 use Rattle.laws.specs.Tally.{tally_all}
 use Rattle.block.specs.Tables.{threads_in}
@@ -7,7 +6,4 @@ use Rattle.tally.specs.Lists.{list_names}
 use Rattle.question.proofs.names.tally_lists.Given as goal
 
 abbrev pub invariant-loop-i : goal.invariant-loop-i
-invariant-loop-i l = (l.i ≤ 32) × (tally_all 129 l.c (list_names (drop l.i (threads_in l.b))) ≡ tally_all 129 l.initial.c (list_names (threads_in l.b)))
-
-abbrev pub decreases-loop-i : goal.decreases-loop-i
-decreases-loop-i l = 32 - l.i
+invariant-loop-i l = tally_all 129 l.c (list_names (drop l.i (threads_in l.b))) ≡ tally_all 129 l.initial.c (list_names (threads_in l.b))

@@ -1,12 +1,8 @@
 use mathlib.Core.Path.{◌≡◌}
-use Prim.Native.Nat.{◌-◌, ◌≤◌}
 use lib.ListN.{length, take}
 use Rattle.block.specs.Tables.{threads_in}
 use Rattle.question.specs.LinearObjects.{dead_marks}
 use Rattle.question.proofs.objects.dead_marks.Given as goal
 
 abbrev pub invariant-loop-i : goal.invariant-loop-i
-invariant-loop-i l = (l.i ≤ 32) × ((length l.r ≡ 32) × (take l.i l.r ≡ dead_marks (take l.i (threads_in l.b))))
-
-abbrev pub decreases-loop-i : goal.decreases-loop-i
-decreases-loop-i l = 32 - l.i
+invariant-loop-i l = record { made : length l.r ≡ 32; marks : take l.i l.r ≡ dead_marks (take l.i (threads_in l.b)) }

@@ -1,11 +1,13 @@
-use mathlib.Core.Path.{sym, ◌∙◌}
+use Rattle.std.proofs.Common.{arith}
+use Rattle.std.proofs.lemmas.Bool.Decides.{nat_tests}
+use Rattle.std.proofs.lemmas.Grind.{common_steps}
 use Rattle.laws.specs.Logic.{◌and◌}
 use Rattle.question.proofs.objects.kept_in.Goals as goal
 
-pub returns-then-not-kept_numbers_ok : goal.returns-then-not-kept_numbers_ok
+pub returns-then-kept_numbers_ok : goal.returns-then-kept_numbers_ok
 unfolding ◌and◌
-returns-then-not-kept_numbers_ok c = rw (sym c.kept_numbers_ok.ensures ∙ c.if-not-kept_numbers_ok.true)
+returns-then-kept_numbers_ok c = grind (arith, nat_tests, common_steps)
 
-pub returns : goal.returns
+pub returns-else-kept_numbers_ok : goal.returns-else-kept_numbers_ok
 unfolding ◌and◌
-returns c = rw (sym c.kept_numbers_ok.ensures ∙ c.if-not-kept_numbers_ok.false)
+returns-else-kept_numbers_ok c = grind (arith, nat_tests, common_steps)

@@ -1,5 +1,4 @@
 use mathlib.Core.Path.{◌≡◌}
-use Prim.Native.Nat.{◌-◌, ◌≤◌}
 use lib.ListN.{drop}
 use Rattle.block.specs.Tables.{kept_in}
 use Rattle.sound.specs.View.{ids}
@@ -7,7 +6,4 @@ use Rattle.sound.specs.Objects.{up_to128}
 use Rattle.question.proofs.objects.kept_numbers_ok.Given as goal
 
 abbrev pub invariant-loop-i : goal.invariant-loop-i
-invariant-loop-i l = (l.i ≤ 32) × (up_to128 (ids (drop l.i (kept_in l.b))) ≡ up_to128 (ids (kept_in l.b)))
-
-abbrev pub decreases-loop-i : goal.decreases-loop-i
-decreases-loop-i l = 32 - l.i
+invariant-loop-i l = up_to128 (ids (drop l.i (kept_in l.b))) ≡ up_to128 (ids (kept_in l.b))

@@ -1,15 +1,16 @@
-use mathlib.Core.Path.{ap}
-use Prim.Native.Nat.{ℕ}
-use lib.Dec.{eqb}
+use mathlib.Core.Path.{sym, ap, ◌∙◌}
+use mathlib.Core.Bool.{true, not}
+use native.Mathlib.Omega.{arith}
 use lib.ListN.{get_or-eq_default}
-use Rattle.laws.specs.Count.{get_any}
+use borrow.Author.Tests.{le-ltb}
 use Rattle.question.specs.LinearObjects.{live?}
+use Rattle.std.proofs.lemmas.List.{get_or_default}
 use Rattle.question.proofs.objects.live.Goals as goal
 
-pub returns-then-d-i : goal.returns-then-d-i
+pub returns-then-t-lt32 : goal.returns-then-t-lt32
 unfolding live?
-returns-then-d-i c = rw (get_or-eq_default c.args.d.now 1 c.if-d-i.true)
+returns-then-t-lt32 c = ap not (get_or_default c.args.d.now c.args.t _ true (omega arith))
 
-pub returns : goal.returns
+pub returns-else-t-lt32 : goal.returns-else-t-lt32
 unfolding live?
-returns c = ap (λ (k : ℕ). eqb k 0) (get_any c.args.d.now c.args.t 0 1 c.if-d-i.false)
+returns-else-t-lt32 c = le-ltb _ _ c.if-t-lt32.false ∙ ap not (sym (get_or-eq_default c.args.d.now true {n = c.args.t} (omega arith)))

@@ -1,13 +1,7 @@
 use mathlib.Core.Path.{◌≡◌}
-use Prim.Native.Nat.{◌≤◌}
-use lib.ListN.{take}
+use mathlib.Core.Bool.{true}
 use Rattle.question.specs.LinearObjects.{chains_by?}
 use Rattle.question.proofs.records.chains_ok.Given as goal
 
-abbrev pub invariant-loop-o : goal.invariant-loop-o
-invariant-loop-o l =
-    let f = chains_by? (take 64 l.nx) (take 64 l.ts) (take 64 l.ad) l.n l.hs in
-    (l.o ≤ 128) × (f l.o ≡ f 128)
-
-abbrev pub decreases-loop-o : goal.decreases-loop-o
-decreases-loop-o l = l.o
+abbrev pub invariant-loop-head : goal.invariant-loop-head
+invariant-loop-head l = chains_by? l.r.nexts l.r.threads l.r.addresses l.n l.heads l.head-index ≡ true

@@ -1,55 +1,41 @@
-use mathlib.Core.Path.{◌≡◌, refl, sym, ◌∙◌}
-use mathlib.Core.Bool.{true}
-use Prim.Native.Nat.{◌≤◌, ◌<◌}
+use mathlib.Core.Path.{refl, sym, ◌∙◌}
 use native.Mathlib.Omega.{arith}
-use lib.ListN.{length, take}
 use Rattle.laws.specs.Logic.{and_no, and_yes}
 use Rattle.laws.specs.Walk.{walk}
 use Rattle.laws.specs.Tally.{tally_all-more, tally_all-none}
-use Rattle.question.specs.ObjectSteps.{chains-next, chains-end, lone_more, lone_none}
-use borrow.Author.Rules.{rules}
+use Rattle.question.specs.ObjectSteps.{chains-next, chains-start, lone_more, lone_none}
 use Rattle.question.proofs.records.mark_chains.Goals as goal
 
 pub loop-i-init : goal.loop-i-init
-loop-i-init c =
-    let a = c.args in
-    (search rules, (search rules, (refl, (refl, (refl, (λ w ad. chains-end (take 64 a.nx.now) (take 64 a.ts.now) ad a.n a.hs.now 0 (omega arith)))))))
+loop-i-init c = record { lone = refl; marks = refl; pairs = λ w ad. chains-start _ _ ad _ _ }
 
-pub returns-then-found-eq0 : goal.returns-then-found-eq0
-returns-then-found-eq0 c =
+pub returns-in_err-apart-clause-broken : goal.returns-in_err-apart-clause-broken
+returns-in_err-apart-clause-broken c =
     let l = c.loop-i in
-    let a = c.args in
-    let x = take 64 a.nx.now in
-    let h : l.i < length a.hs.now = omega (arith, c.requires) in record { hs_value = (λ w. sym l.invariant.1.1.1.0 ∙ lone_more x l.m a.hs.now l.i h ∙ and_no _ _ (c.mark_head-found.ensures.head_value c.if-found-eq0.true)); hs_value_2 = (λ w. absurd (w refl)); m_after = (λ w. absurd (w refl)); by_index = (λ w. absurd (omega (arith, w))) }
+    let x = c.args.r.now.nexts in
+    λ w. sym l.invariant.lone ∙ lone_more x l.m c.args.heads.now l.i (omega arith) ∙ and_no _ _ (c.in_err-apart.ensures.broken refl)
 
 pub loop-i-preserved : goal.loop-i-preserved
 loop-i-preserved c =
     let l = c.loop-i in
     let a = c.args in
-    let x = take 64 a.nx.now in
-    let k = c.mark_head-found.ensures in
-    let e = c.if-found-eq0.false in
-    let h : l.i < length a.hs.now = omega (arith, c.requires) in (
-      search rules,
-      (
-        omega (arith, e),
-        (
-          k.seen_len_2,
-          (
-            rw (k.m_after e) (sym (and_yes _ _ (k.head_value_2 e)) ∙ sym (lone_more x l.m a.hs.now l.i h) ∙ l.invariant.1.1.1.0),
-            (
-              rw (k.m_after e) (sym (tally_all-more 129 (walk x 64) a.hs.now l.i 0 l.m h) ∙ l.invariant.1.1.1.1.0),
-              (λ w ad. chains-next x (take 64 a.ts.now) ad a.n a.hs.now l.i (k.by_index w ad) (l.invariant.1.1.1.1.1 (k.found_value w) ad)),
-            ),
-          ),
-        ),
-      ),
-    )
+    let x = a.r.now.nexts in
+    let k = c.mark_head.ensures in
+    let e = c.in_ok-apart.was in
+    record {
+      lone = rw (k.m_after _ e) (sym (and_yes _ _ (k.lone _ e)) ∙ sym (lone_more x l.m a.heads.now l.i (omega arith)) ∙ l.invariant.lone);
+      marks = rw (k.m_after _ e) (sym (tally_all-more 129 (walk x 64) a.heads.now l.i 0 l.m (omega arith)) ∙ l.invariant.marks);
+      pairs = λ w ad.
+          let f = rw w at e in
+          chains-next x a.r.now.threads ad a.n a.heads.now l.i (k.pairs f ad) (l.invariant.pairs (k.still f) ad);
+    }
 
-pub returns : goal.returns
-returns c =
+pub returns-clause-lone : goal.returns-clause-lone
+returns-clause-lone c =
     let l = c.loop-i in
-    let a = c.args in
-    let x = take 64 a.nx.now in
-    let i : l.i ≡ 128 = omega arith in
-    let e : length a.hs.now ≤ l.i = omega (arith, c.requires) in record { hs_value = (λ w. absurd (omega (arith, l.invariant.1.0, w))); hs_value_2 = (λ w. sym l.invariant.1.1.1.0 ∙ lone_none x l.m a.hs.now l.i e); m_after = (λ w. sym (tally_all-none 129 (walk x 64) a.hs.now l.m l.i e) ∙ l.invariant.1.1.1.1.0); by_index = (λ w ad. rw i at (l.invariant.1.1.1.1.1 w ad)) }
+    λ b w. sym l.invariant.lone ∙ lone_none c.args.r.now.nexts l.m c.args.heads.now l.i (omega arith)
+
+pub returns-clause-m_after : goal.returns-clause-m_after
+returns-clause-m_after c =
+    let l = c.loop-i in
+    λ b w. sym (tally_all-none 129 (walk c.args.r.now.nexts 64) c.args.heads.now l.m l.i (omega arith)) ∙ l.invariant.marks

@@ -1,60 +1,40 @@
-use mathlib.Core.Path.{sym, ◌∙◌}
-use lib.ListN.{take, replicate}
+use mathlib.Core.Path.{◌≡◌, sym, ◌∙◌}
+use native.Mathlib.Omega.{arith}
+use lib.ListN.{length, replicate}
 use Rattle.laws.specs.Logic.{true-and, and_no, and_yes}
-use Rattle.question.specs.LinearObjects.{shared_out?, fine_pool?}
+use Rattle.question.specs.LinearObjects.{fine_pool?}
 use Rattle.question.specs.Lone.{not_shared, lone_ends}
+use Rattle.question.proofs.Steps.{pool-ends}
 use Rattle.question.proofs.records.shared_out.Goals as goal
 
-pub returns-then-found-eq0 : goal.returns-then-found-eq0
+pub returns-in_default : goal.returns-in_default
 unfolding fine_pool?
-returns-then-found-eq0 c =
+returns-in_default c =
     let a = c.args in
-    let x = take 64 a.nx.now in
-    let k = c.mark_chains-found.ensures in
-    sym (and_no _ _ (not_shared x c.requires.nx_len a.hs.now a.free (k.hs_value c.if-found-eq0.true)))
+    let n : length a.r.now.nexts ≡ 64 = omega (arith, c.well_formed) in
+    sym (and_no _ _ (not_shared a.r.now.nexts n a.heads.now a.free (c.mark_chains.ensures.broken c.in_default.is)))
 
-pub returns-then-not-mark_chain : goal.returns-then-not-mark_chain
-unfolding fine_pool? shared_out?
-returns-then-not-mark_chain c =
+pub returns-then-apart : goal.returns-then-apart
+returns-then-apart c =
     let a = c.args in
-    let x = take 64 a.nx.now in
-    let k = c.mark_chains-found.ensures in
-    let g = c.if-found-eq0.false in
-    let e = lone_ends x a.hs.now (replicate 129 0) (k.hs_value_2 g) in
-    sym (and_no _ _ (and_yes _ _ e ∙ and_no _ _ (sym c.mark_chain.ensures.value ∙ c.if-not-mark_chain.true)))
+    let k = c.mark_chains.ensures in
+    let e = lone_ends a.r.now.nexts a.heads.now (replicate 129 0) (k.lone _ c.in-Some.is) in
+    let f = rw (k.m_after _ c.in-Some.is) at c.rest_free.ensures in
+    c.if-apart.true
+    ∙ sym (pool-ends _ _ _ _ _ _ e ∙ true-and _ _ (sym f ∙ c.if-rest_free.true) (k.pairs (rw c.if-apart.true at c.in-Some.is) _))
 
-pub returns-then-not-once_ok : goal.returns-then-not-once_ok
-unfolding fine_pool? shared_out?
-returns-then-not-once_ok c =
+pub returns-else-apart : goal.returns-else-apart
+returns-else-apart c =
     let a = c.args in
-    let x = take 64 a.nx.now in
-    let k = c.mark_chains-found.ensures in
-    let g = c.if-found-eq0.false in
-    let e = lone_ends x a.hs.now (replicate 129 0) (k.hs_value_2 g) in
-    let f = c.mark_chain.ensures in
-    let o = rw (f.m_after, k.m_after g) at c.once_ok.ensures in
-    sym (and_no _ _ (and_yes _ _ e ∙ and_yes _ _ (sym f.value ∙ c.if-not-mark_chain.false) ∙ (sym o ∙ c.if-not-once_ok.true)))
+    let k = c.mark_chains.ensures in
+    let e = lone_ends a.r.now.nexts a.heads.now (replicate 129 0) (k.lone _ c.in-Some.is) in
+    let f = rw (k.m_after _ c.in-Some.is) at c.rest_free.ensures in
+    c.chains_ok.ensures ∙ sym (pool-ends _ _ _ _ _ _ e ∙ and_yes _ _ (sym f ∙ c.if-rest_free.true))
 
-pub returns-then-found-eq1 : goal.returns-then-found-eq1
-unfolding fine_pool? shared_out?
-returns-then-found-eq1 c =
+pub returns-else-rest_free : goal.returns-else-rest_free
+returns-else-rest_free c =
     let a = c.args in
-    let x = take 64 a.nx.now in
-    let k = c.mark_chains-found.ensures in
-    let g = c.if-found-eq0.false in
-    let e = lone_ends x a.hs.now (replicate 129 0) (k.hs_value_2 g) in
-    let f = c.mark_chain.ensures in
-    let o = rw (f.m_after, k.m_after g) at c.once_ok.ensures in
-    sym (true-and _ _ (true-and _ _ e (true-and _ _ (sym f.value ∙ c.if-not-mark_chain.false) (sym o ∙ c.if-not-once_ok.false))) (k.by_index c.if-found-eq1.true (take 64 a.ad.now)))
-
-pub returns : goal.returns
-unfolding fine_pool? shared_out?
-returns c =
-    let a = c.args in
-    let x = take 64 a.nx.now in
-    let k = c.mark_chains-found.ensures in
-    let g = c.if-found-eq0.false in
-    let e = lone_ends x a.hs.now (replicate 129 0) (k.hs_value_2 g) in
-    let f = c.mark_chain.ensures in
-    let o = rw (f.m_after, k.m_after g) at c.once_ok.ensures in
-    c.chains_ok.ensures ∙ sym (and_yes _ _ (true-and _ _ e (true-and _ _ (sym f.value ∙ c.if-not-mark_chain.false) (sym o ∙ c.if-not-once_ok.false))))
+    let k = c.mark_chains.ensures in
+    let e = lone_ends a.r.now.nexts a.heads.now (replicate 129 0) (k.lone _ c.in-Some.is) in
+    let f = rw (k.m_after _ c.in-Some.is) at c.rest_free.ensures in
+    c.if-rest_free.false ∙ sym (pool-ends _ _ _ _ _ _ e ∙ and_no _ _ (sym f ∙ c.if-rest_free.false))

@@ -1,13 +1,14 @@
-use mathlib.Core.Path.{ap, sym, ◌∙◌}
-use Rattle.laws.specs.Logic.{and_no, and_yes}
-use Rattle.block.specs.Thread.{words_list}
-use Rattle.sound.specs.Threads.{zeros?, places?, blank?}
+use Rattle.std.proofs.Common.{arith}
+use Rattle.std.proofs.lemmas.Bool.Decides.{nat_tests}
+use Rattle.std.proofs.lemmas.Grind.{common_steps}
+use Rattle.laws.specs.Logic.{◌and◌}
+use Rattle.sound.specs.Threads.{blank?, places?}
 use Rattle.question.proofs.threads.blank_ok.Goals as goal
 
-pub returns-then-not-words_zero : goal.returns-then-not-words_zero
-unfolding blank?
-returns-then-not-words_zero c = sym (and_no _ _ (sym (c.words_zero.ensures ∙ ap (λ w. zeros? (words_list w)) c.thread_words.ensures) ∙ c.if-not-words_zero.true))
+pub returns-then-words_zero : goal.returns-then-words_zero
+unfolding ◌and◌ blank? places?
+returns-then-words_zero c = grind (arith, nat_tests, common_steps)
 
-pub returns : goal.returns
-unfolding blank? places?
-returns c = sym (and_yes _ _ (sym (c.words_zero.ensures ∙ ap (λ w. zeros? (words_list w)) c.thread_words.ensures) ∙ c.if-not-words_zero.false) ∙ sym c.places_ok.ensures)
+pub returns-else-words_zero : goal.returns-else-words_zero
+unfolding ◌and◌ blank? places?
+returns-else-words_zero c = grind (arith, nat_tests, common_steps)

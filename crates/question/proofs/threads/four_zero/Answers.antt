@@ -1,19 +1,13 @@
-use borrow.Author.Tests.{eq-eqb, ne_eqb}
+use Rattle.std.proofs.Common.{arith}
+use Rattle.std.proofs.lemmas.Bool.Decides.{nat_tests}
+use Rattle.std.proofs.lemmas.Grind.{common_steps}
 use Rattle.laws.specs.Logic.{◌and◌}
 use Rattle.question.proofs.threads.four_zero.Goals as goal
 
-pub returns-then-w-ne0 : goal.returns-then-w-ne0
+pub returns-then-w-eq0-3 : goal.returns-then-w-eq0-3
 unfolding ◌and◌
-returns-then-w-ne0 c = rw (ne_eqb _ 0 c.if-w-ne0.true)
+returns-then-w-eq0-3 c = grind (arith, nat_tests, common_steps)
 
-pub returns-then-w-ne0-2 : goal.returns-then-w-ne0-2
+pub returns-else-w-eq0-3 : goal.returns-else-w-eq0-3
 unfolding ◌and◌
-returns-then-w-ne0-2 c = rw (eq-eqb _ 0 c.if-w-ne0.false, ne_eqb _ 0 c.if-w-ne0-2.true)
-
-pub returns-then-w-ne0-3 : goal.returns-then-w-ne0-3
-unfolding ◌and◌
-returns-then-w-ne0-3 c = rw (eq-eqb _ 0 c.if-w-ne0.false, eq-eqb _ 0 c.if-w-ne0-2.false, ne_eqb _ 0 c.if-w-ne0-3.true)
-
-pub returns : goal.returns
-unfolding ◌and◌
-returns c = rw (eq-eqb _ 0 c.if-w-ne0.false, eq-eqb _ 0 c.if-w-ne0-2.false, eq-eqb _ 0 c.if-w-ne0-3.false)
+returns-else-w-eq0-3 c = grind (arith, nat_tests, common_steps)

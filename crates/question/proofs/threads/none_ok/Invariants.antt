@@ -1,13 +1,9 @@
 use mathlib.Core.Path.{◌≡◌}
-use Prim.Native.Nat.{◌-◌, ◌≤◌}
+use Prim.Native.Nat.{◌-◌}
 use lib.ListN.{drop}
 use Rattle.sound.specs.View.{ids}
 use Rattle.sound.specs.Threads.{places?}
-use Rattle.types.specs.Thread.{wait_list}
 use Rattle.question.proofs.threads.none_ok.Given as goal
 
-abbrev pub invariant-loop-i : goal.invariant-loop-i
-invariant-loop-i l = (l.i ≤ wait_list) × (places? (0 - l.i) (ids (drop l.i l.l)) ≡ places? 0 (ids l.l))
-
-abbrev pub decreases-loop-i : goal.decreases-loop-i
-decreases-loop-i l = wait_list - l.i
+abbrev pub invariant-loop-o : goal.invariant-loop-o
+invariant-loop-o l = places? (0 - l.o-index) (ids (drop l.o-index l.o-items)) ≡ places? 0 (ids l.fn.l)

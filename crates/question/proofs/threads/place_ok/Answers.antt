@@ -1,11 +1,13 @@
-use borrow.Author.Tests.{lt-ltb, le-ltb}
+use Rattle.std.proofs.Common.{arith}
+use Rattle.std.proofs.lemmas.Bool.Decides.{nat_tests}
+use Rattle.std.proofs.lemmas.Grind.{common_steps}
 use Rattle.sound.specs.Threads.{place?}
 use Rattle.question.proofs.threads.place_ok.Goals as goal
 
 pub returns-then-i-n : goal.returns-then-i-n
 unfolding place?
-returns-then-i-n c = rw (lt-ltb _ _ c.if-i-n.true) c.thread_ok.ensures
+returns-then-i-n c = grind (arith, nat_tests, common_steps)
 
-pub returns : goal.returns
+pub returns-else-i-n : goal.returns-else-i-n
 unfolding place?
-returns c = rw (le-ltb _ _ c.if-i-n.false) c.blank_ok.ensures
+returns-else-i-n c = grind (arith, nat_tests, common_steps)

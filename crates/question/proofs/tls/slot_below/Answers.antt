@@ -5,8 +5,8 @@ use Rattle.question.proofs.tls.slot_below.Goals as goal
 
 pub returns-then-is_dead : goal.returns-then-is_dead
 unfolding below?
-returns-then-is_dead c = rw (sym c.is_dead.ensures ∙ c.if-is_dead.true)
+returns-then-is_dead c = rw (sym c.is_dead.ensures ∙ c.if-is_dead.true) c.if-is_dead.true
 
-pub returns : goal.returns
+pub returns-else-is_dead : goal.returns-else-is_dead
 unfolding below?
-returns c = rw (sym c.is_dead.ensures ∙ c.if-is_dead.false) (sym (and-end _))
+returns-else-is_dead c = rw (sym c.is_dead.ensures ∙ c.if-is_dead.false) (sym (and-end _))

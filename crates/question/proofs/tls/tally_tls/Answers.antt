@@ -1,4 +1,4 @@
-use mathlib.Core.Path.{◌≡◌, refl, ap, sym, ◌∙◌}
+use mathlib.Core.Path.{◌≡◌, ap, sym, ◌∙◌}
 use Prim.Native.Nat.{◌≤◌, ◌<◌}
 use native.Mathlib.Omega.{arith}
 use lib.ListN.{length}
@@ -9,11 +9,7 @@ use Rattle.codec.proofs.Fit.{length-dec_all}
 use Rattle.sound.specs.View.{no_thread}
 use Rattle.sound.specs.Tls.{held-end}
 use Rattle.tally.proofs.Held.{tally-held}
-use borrow.Author.Rules.{rules}
 use Rattle.question.proofs.tls.tally_tls.Goals as goal
-
-pub loop-i-init : goal.loop-i-init
-loop-i-init c = (search rules, refl)
 
 pub loop-i-preserved : goal.loop-i-preserved
 loop-i-preserved c =
@@ -22,7 +18,7 @@ loop-i-preserved c =
     let n : length (threads_in b) ≡ 32 = length-dec_all dec_thread 160 32 b 128 in
     let h : l.i < length (threads_in b) = omega arith in
     let t = c.thread_at.ensures ∙ row_at dec_thread 160 no_thread 32 b 128 l.i (omega arith) in
-    (search rules, rw (c.tally_slot.ensures, t) (sym (tally-held (threads_in b) l.i h 129 l.m) ∙ l.invariant.1))
+    rw (c.tally_slot.ensures, t) (sym (tally-held (threads_in b) l.i h 129 l.m) ∙ l.invariant)
 
 pub returns : goal.returns
 unfolding tally
@@ -30,4 +26,4 @@ returns c =
     let l = c.loop-i in
     let b = c.args.b.now in
     let e : length (threads_in b) ≤ l.i = omega (arith, length-dec_all dec_thread 160 32 b 128) in
-    sym (ap (tally 129 l.m) (held-end (threads_in b) l.i e)) ∙ l.invariant.1
+    sym (ap (tally 129 l.m) (held-end (threads_in b) l.i e)) ∙ l.invariant

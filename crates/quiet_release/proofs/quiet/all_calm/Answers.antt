@@ -1,8 +1,7 @@
-use mathlib.Core.Path.{refl, sym, ap, ◌∙◌}
+use mathlib.Core.Path.{sym, ap, ◌∙◌}
 use Prim.Native.Nat.{◌<◌}
 use native.Mathlib.Omega.{arith}
 use lib.ListN.{length}
-use borrow.Author.Rules.{rules}
 use Rattle.types.specs.declared.thread.Thread.{Thread}
 use Rattle.block.specs.Block.{dec_block}
 use Rattle.pass.specs.Asks.{calm}
@@ -11,29 +10,26 @@ use Rattle.due.proofs.Looked.{thread-is}
 use Rattle.quiet_release.proofs.Calm.{calm-no, calm-yes, calm-end}
 use Rattle.quiet_release.proofs.quiet.all_calm.Goals as goal
 
-pub loop-i-init : goal.loop-i-init
-loop-i-init c = (search rules, refl)
-
 pub returns-then-not-calm : goal.returns-then-not-calm
 returns-then-not-calm c =
     let a = c.args in
     let i = c.loop-i.i in
     let h : i < length (dec_block a.b.now).threads = omega (arith, size-threads a.b.now) in
-    let t = c.thread_at-t.ensures ∙ thread-is a.b.now i (omega arith) in
+    let t = c.thread_at.ensures ∙ thread-is a.b.now i (omega arith) in
     let e = c.calm.ensures ∙ ap (λ (x : Thread). calm a.o.0 a.c a.p i x x.status) t in
-    calm-no a.o.0 a.c a.p (dec_block a.b.now).threads i h (sym e ∙ c.if-not-calm.true) ∙ c.loop-i.invariant.1
+    calm-no a.o.0 a.c a.p (dec_block a.b.now).threads i h (sym e ∙ c.if-not-calm.true) ∙ c.loop-i.invariant
 
 pub loop-i-preserved : goal.loop-i-preserved
 loop-i-preserved c =
     let a = c.args in
     let i = c.loop-i.i in
     let h : i < length (dec_block a.b.now).threads = omega (arith, size-threads a.b.now) in
-    let t = c.thread_at-t.ensures ∙ thread-is a.b.now i (omega arith) in
+    let t = c.thread_at.ensures ∙ thread-is a.b.now i (omega arith) in
     let e = c.calm.ensures ∙ ap (λ (x : Thread). calm a.o.0 a.c a.p i x x.status) t in
-    (search rules, calm-yes a.o.0 a.c a.p (dec_block a.b.now).threads i h (sym e ∙ c.if-not-calm.false) ∙ c.loop-i.invariant.1)
+    calm-yes a.o.0 a.c a.p (dec_block a.b.now).threads i h (sym e ∙ c.if-not-calm.false) ∙ c.loop-i.invariant
 
 pub returns : goal.returns
 returns c =
     let l = c.loop-i in
     let a = c.args in
-    calm-end a.o.0 a.c a.p (dec_block a.b.now).threads l.i (omega (arith, size-threads a.b.now)) ∙ l.invariant.1
+    calm-end a.o.0 a.c a.p (dec_block a.b.now).threads l.i (omega (arith, size-threads a.b.now)) ∙ l.invariant

@@ -12,8 +12,7 @@ use Rattle.rows.proofs.read.slot_at.Goals as goal
 pub returns-then-not-is_slot : goal.returns-then-not-is_slot
 unfolding dec_block
 returns-then-not-is_slot c = let a = c.args in
-    c.no_slot.ensures
-    ∙ sym (slot_at-out (slots_in a.b.now) a.o.0 (λ p. omega (arith, length-dec_all dec_slot 40 128 a.b.now 5248, slot-past a.o.0 (sym c.is_slot.ensures ∙ c.if-not-is_slot.true) p)))
+    sym (slot_at-out (slots_in a.b.now) a.o.0 (λ p. omega (arith, length-dec_all dec_slot 40 128 a.b.now 5248, slot-past a.o.0 (sym c.is_slot.ensures ∙ c.if-not-is_slot.true) p)))
 
 pub returns : goal.returns
 unfolding dec_block

@@ -1,30 +1,18 @@
-use mathlib.Core.Path.{◌≡◌}
-use native.Mathlib.Omega.{arith}
-use lib.ListN.{length}
+use mathlib.Core.Path.{◌∙◌}
 use Rattle.scheduler.specs.Turn.{turning}
-use Rattle.scheduler.specs.Place.{choose-is}
+use Rattle.scheduler.proofs.Choice.{choose_as}
 use Rattle.scheduler.proofs.choose.choose.Goals as goal
-
-pub offset_bounds-l-c-3 : goal.offset_bounds-l-c-3
-offset_bounds-l-c-3 c = omega (arith, c.place_of-c.ensures.upper_bound)
-
-pub bounds-l-c-3 : goal.bounds-l-c-3
-bounds-l-c-3 c = omega (arith, c.place_of-c.ensures.upper_bound)
-
-pub offset_bounds-l-c-4 : goal.offset_bounds-l-c-4
-offset_bounds-l-c-4 c = omega (arith, c.place_of-c.ensures.upper_bound)
-
-pub bounds-l-c-4 : goal.bounds-l-c-4
-bounds-l-c-4 c = omega (arith, c.place_of-c.ensures.upper_bound)
+use Rattle.scheduler.proofs.choose.choose.Goals.{then-not-same, else-not-same}
 
 pub returns : goal.returns
 returns c k s =
     let a = c.args in
-    let n : length a.ts ≡ 32 = omega (arith, c.well_formed) in
-    rw (c.flipped-turns.ensures, c.switches-turned.ensures, c.unless-restored.ensures, c.unless-saved.ensures)
-    (choose-is (turning k a.current a.relief) s a.ts a.tick.0 n c.place_of-c.result c.place_of-f.result c.place_of-n.result
-    c.mark_waited.result c.begin_run.result c.begin_run-2.result c.leave_core.result c.take_core.result
+    rw (c.flipped.ensures, c.switches.ensures, c.unless-2.ensures, c.unless.ensures)
+    (choose_as (turning k a.current a.relief) s a.ts a.tick.0 c.mark_waited.new.ts c.begin_run.new.ts c.begin_run-2.new.ts c.take_core.new.ts
     c.pick_next-first.result c.chosen-next.result c.starving-starve.result c.stays-same.result
-    c.place_of-c.ensures.value c.mark_waited.ensures c.pick_next-first.ensures
-    c.place_of-f.ensures.value c.begin_run.ensures c.starving-starve.ensures c.chosen-next.ensures
-    c.place_of-n.ensures.value c.begin_run-2.ensures c.stays-same.ensures c.leave_core.ensures c.take_core.ensures)
+    c.mark_waited.ensures c.pick_next-first.ensures c.begin_run.ensures c.starving-starve.ensures c.chosen-next.ensures
+    c.begin_run-2.ensures c.stays-same.ensures
+    (c.take_core.ensures ∙ elim c.if-not-same.branch [
+      | then-not-same w ↦ rw (w.l-is, w.leave_core.ensures, w.if-not-same.true)
+      | else-not-same w ↦ rw (w.l-is, w.if-not-same.false)
+    ]))

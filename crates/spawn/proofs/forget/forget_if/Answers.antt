@@ -9,10 +9,10 @@ pub returns-then-not-reused : goal.returns-then-not-reused
 returns-then-not-reused c = rw (c.if-not-reused.true) record { block_after = refl; encoded = sound-encoded c.args.block.now c.requires.block_value }
 
 pub let_go-requires : goal.let_go-requires
-let_go-requires c = record { block_len = c.requires.block_len; encoded = sound-encoded c.args.block.now c.requires.block_value }
+let_go-requires c = record { encoded = sound-encoded c.args.block.now c.requires.block_value }
 
 pub drop_records-requires : goal.drop_records-requires
-drop_records-requires c = record { block_len = c.let_go.auto.block ∙ c.requires.block_len; encoded = c.let_go.ensures.encoded_2 }
+drop_records-requires c = record { encoded = c.let_go.ensures.encoded_2 }
 
 pub returns : goal.returns
 unfolding forget_thread

@@ -8,7 +8,7 @@ pub returns-then-o-eq0 : goal.returns-then-o-eq0
 returns-then-o-eq0 c = record { block_after = none_kept c.args.block.now c.requires.encoded c.args.t (sym c.kept_at-o.ensures ∙ c.if-o-eq0.true); encoded_2 = c.requires.encoded }
 
 pub release-requires : goal.release-requires
-release-requires c = record { block_len = c.put_kept.auto.b ∙ c.requires.block_len; encoded = subst Encoded (sym c.put_kept.ensures) (unkept_in c.args.block.now c.requires.encoded c.args.t).1 }
+release-requires c = record { encoded = subst Encoded (sym c.put_kept.ensures) (unkept_in c.args.block.now c.requires.encoded c.args.t).1 }
 
 pub returns : goal.returns
 returns c = let b = c.args.block.now in

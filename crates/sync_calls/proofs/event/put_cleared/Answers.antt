@@ -6,4 +6,4 @@ use Rattle.sync_calls.proofs.event.put_cleared.Goals as goal
 
 pub returns : goal.returns
 unfolding sig.clear_event
-returns c = rw (c.content.ensures, c.cleared_event.ensures, c.slot_at-old.ensures) (put-content (holds _ c.requires.block_value) _ _ _ refl)
+returns c = rw (c.content.ensures, c.cleared_event.ensures, c.slot_at-x.ensures) (put-content (holds _ c.requires.block_value) _ _ _ refl)

@@ -4,4 +4,4 @@ use Rattle.sync_calls.proofs.event.put_signaled.Goals as goal
 
 pub returns : goal.returns
 unfolding sig.signal_event
-returns c = rw (c.put_slot.ensures, c.signaled_slot.ensures, c.waited_sync-waited.ensures, c.slot_at-old.ensures) (put-slot (holds _ c.requires.block_value) _ _)
+returns c = rw (c.put_slot.ensures, c.signaled_slot.ensures, c.waited_sync-waited.ensures, c.slot_at-x.ensures) (put-slot (holds _ c.requires.block_value) _ _)

@@ -15,4 +15,4 @@ returns-then-c-ge32 c = let a = c.args in
     rw (thread_at-out (threads_in a.block.now) a.c (omega (arith, length-dec_all dec_thread 160 32 a.block.now 128, c.if-c-ge32.true)))
 
 pub returns : goal.returns
-returns c = c.is_running.ensures ∙ ap (λ (x : Thread). is_running x.status) c.thread_at-t.ensures
+returns c = c.is_running.ensures ∙ ap (λ (x : Thread). is_running x.status) c.thread_at.ensures

@@ -1,15 +1,18 @@
+use mathlib.Core.Path.{◌≡◌, refl}
+use mathlib.Core.Bool.{Bool, true, false, not}
 use borrow.Author.Tests.{eq-eqb, ne_eqb}
+use Rattle.laws.specs.Logic.{pick}
 use Rattle.svc.specs.Dispatch as def
 use Rattle.table.proofs.questions.outside.Goals as goal
 
-pub returns-then-n-eq0 : goal.returns-then-n-eq0
-unfolding def.outside?
-returns-then-n-eq0 c = rw (← c.words_read-n.ensures, eq-eqb _ 0 c.if-n-eq0.true)
+not-is : (b : Bool) → not b ≡ pick b false true
+not-is true = refl
+not-is false = refl
 
-pub returns-then-in_window : goal.returns-then-in_window
+pub returns-then-n-ne0 : goal.returns-then-n-ne0
 unfolding def.outside?
-returns-then-in_window c = rw (← c.words_read-n.ensures, ne_eqb _ 0 c.if-n-eq0.false, ← c.in_window.ensures, c.if-in_window.true)
+returns-then-n-ne0 c = rw (← c.words_read-n.ensures, ne_eqb _ 0 c.if-n-ne0.true, ← c.in_window.ensures) (not-is c.in_window.result)
 
-pub returns : goal.returns
+pub returns-else-n-ne0 : goal.returns-else-n-ne0
 unfolding def.outside?
-returns c = rw (← c.words_read-n.ensures, ne_eqb _ 0 c.if-n-eq0.false, ← c.in_window.ensures, c.if-in_window.false)
+returns-else-n-ne0 c = rw (← c.words_read-n.ensures, eq-eqb _ 0 c.if-n-ne0.false)

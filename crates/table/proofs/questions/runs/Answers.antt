@@ -3,4 +3,4 @@ use Rattle.table.proofs.questions.runs.Goals as goal
 
 pub returns : goal.returns
 unfolding def.runs?
-returns c = rw (c.runs_as.ensures, c.current-current.ensures)
+returns c = rw (c.runs_as.ensures, c.current.ensures)

@@ -1,11 +1,8 @@
-use mathlib.Core.Path.{sym}
-use native.Mathlib.Omega.{arith}
-use borrow.Author.Tests.{lt-ltb, le-ltb}
-use Rattle.laws.specs.Logic.{and_no, and_yes}
+use mathlib.Core.Path.{◌∙◌}
+use Rattle.std.proofs.Common.{rules, tests}
+use Rattle.laws.specs.Logic.{◌and◌}
 use Rattle.tally.proofs.place.is_slot.Goals as goal
 
-pub returns-then-n-eq0 : goal.returns-then-n-eq0
-returns-then-n-eq0 c = sym (and_no _ _ (le-ltb 0 c.args.o.0 (omega arith)))
-
 pub returns : goal.returns
-returns c = sym (and_yes _ _ (lt-ltb 0 c.args.o.0 (omega arith)))
+unfolding ◌and◌
+returns c = let b = c.new.ensures in c.contains.ensures.value ∙ rw (b.start, b.end, b.exhausted) (search (rules, tests))

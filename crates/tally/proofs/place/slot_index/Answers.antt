@@ -1,16 +1,15 @@
-use borrow.Author.Tests.{lt-ltb, le-ltb, eq-eqb, ne_eqb}
+use mathlib.Core.Path.{sym, ◌∙◌}
 use native.Mathlib.Omega.{arith}
-use Rattle.tally.specs.Place.{slot_index}
+use Rattle.tally.specs.Place.{slot-some, index-slot, index-none}
 use Rattle.tally.proofs.place.slot_index.Goals as goal
 
-pub returns-then-n-eq0 : goal.returns-then-n-eq0
-unfolding slot_index
-returns-then-n-eq0 c = record { value = rw (eq-eqb _ 0 c.if-n-eq0.true); upper_bound = omega arith }
+pub overflow_sub-result : goal.overflow_sub-result
+overflow_sub-result c = omega (arith, slot-some c.args.o.0 (sym c.is_slot.ensures ∙ c.if-is_slot.true))
 
-pub returns-then-n-gt128 : goal.returns-then-n-gt128
-unfolding slot_index
-returns-then-n-gt128 c = record { value = rw (ne_eqb _ 0 c.if-n-eq0.false, lt-ltb 128 _ c.if-n-gt128.true); upper_bound = omega arith }
+pub returns-then-is_slot : goal.returns-then-is_slot
+returns-then-is_slot c =
+    let e = sym c.is_slot.ensures ∙ c.if-is_slot.true in
+    record { value = sym (index-slot c.args.o.0 e); upper_bound = omega (arith, slot-some c.args.o.0 e) }
 
-pub returns : goal.returns
-unfolding slot_index
-returns c = record { value = rw (ne_eqb _ 0 c.if-n-eq0.false, le-ltb 128 _ c.if-n-gt128.false); upper_bound = omega arith }
+pub returns-else-is_slot-clause-value : goal.returns-else-is_slot-clause-value
+returns-else-is_slot-clause-value c = sym (index-none c.args.o.0 (sym c.is_slot.ensures ∙ c.if-is_slot.false))

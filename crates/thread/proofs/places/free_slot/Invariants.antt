@@ -1,10 +1,7 @@
 use mathlib.Core.Path.{◌≡◌}
-use Prim.Native.Nat.{◌-◌, ◌≤◌}
+use Prim.Native.Nat.{◌-◌}
 use Rattle.thread.specs.Marks.{free_marked}
 use Rattle.thread.proofs.places.free_slot.Given as goal
 
 abbrev pub invariant-loop-i : goal.invariant-loop-i
-invariant-loop-i l = (l.i ≤ l.n) × (free_marked l.m (l.n - l.i) l.i ≡ free_marked l.m l.n 0)
-
-abbrev pub decreases-loop-i : goal.decreases-loop-i
-decreases-loop-i l = l.n - l.i
+invariant-loop-i l = free_marked l.m (l.n - l.i) l.i ≡ free_marked l.m l.n 0

@@ -1,19 +1,9 @@
+use Rattle.svc.specs.Timers.{cancelled}
 use Rattle.block.specs.Block.{dec_block}
-use Rattle.svc.specs.Timers.{cancel_timer}
-use Rattle.objects.proofs.Calls.{refused-call, accepted-call}
-use Rattle.timer_calls.proofs.Named.{cancel_timer-finding, cancel_is}
+use Rattle.timer_calls.proofs.Named.{cancel_is}
 use Rattle.timer_calls.proofs.timers.cancel_timer.Goals as goal
 
-pub returns-then-a-ne0 : goal.returns-then-a-ne0
-returns-then-a-ne0 c = let a = c.args in
-    let k = dec_block a.block.now in
-    let w' = refused-call a.block.now a.r.r0 _ c.open_caught-a.result c.open_caught-a.ensures.opens (cancel_timer k a.r a.tick.0) (cancel_timer-finding k a.r a.tick.0) c.if-a-ne0.true _ c.refused.ensures in
-    record { value = w'.0; block_after = w'.1 }
-
 pub returns : goal.returns
-returns c = let a = c.args in
-    let k = dec_block a.block.now in
-    let p = c.open_caught-a.ensures in
-    let u = cancel_is k a.r a.tick.0 _ (p.block_after_2 c.if-a-ne0.false) c.open_caught-a.result.object.0 (p.opens.object c.if-a-ne0.false) in
-    let w' = accepted-call a.block.now a.r.r0 _ c.open_caught-a.result p.opens (cancel_timer k a.r a.tick.0) (cancel_timer-finding k a.r a.tick.0) c.if-a-ne0.false _ u _ c.done.ensures _ c.put_cancelled.ensures in
-    record { value = w'.0; block_after = w'.1 }
+returns c =
+    let a = c.args in
+    rw (← cancel_is (dec_block a.block.now) a.r a.tick.0) record { value = c.change_caught.ensures.value cancelled (λ x y p. p.1); block_after = c.change_caught.ensures.block_after cancelled (λ x y p. p.1) }

@@ -1,5 +1,5 @@
 use mathlib.Core.Path.{sym, ap, ◌∙◌}
-use mathlib.Core.Bool.{true}
+use Rattle.std.specs.Prelude.{Some}
 use Prim.Native.Nat.{ℕ}
 use Rattle.laws.specs.Logic.{false-true}
 use Rattle.block.specs.Block.{dec_block}
@@ -8,7 +8,6 @@ use Rattle.wait_calls.specs.Waits.{wait_in}
 use Rattle.wait_calls.proofs.Ways.{same-handles}
 use Rattle.wait_calls.proofs.Lists.{settles}
 use Rattle.wait_calls.proofs.Whole.{room-caught, known_is, opened-is, same_block}
-use borrow.Author.Rules.{rules}
 use Rattle.wait_calls.proofs.many.wait_caught.Goals as goal
 
 pub wait_list-requires : goal.wait_list-requires
@@ -17,7 +16,7 @@ wait_list-requires c =
     let b = a.block.now in
     let k = dec_block b in
     let g = c.requires.ready in
-    let d = c.catch_up_if.ensures.block_after in record { block_len = search rules; block_value = c.catch_up_if.ensures.block_after_2; block_value_2 = same-handles _ k _ d g.handles }
+    let d = c.catch_up_if.ensures.block_after in record { block_value = c.catch_up_if.ensures.block_after_2; block_value_2 = same-handles _ k _ d g.handles }
 
 pub returns-then-known : goal.returns-then-known
 returns-then-known c =
@@ -27,15 +26,15 @@ returns-then-known c =
     let g = c.requires.ready in
     let d = c.catch_up_if.ensures.block_after in
     let m = c.catch_up_if.new.block in
-    let f = ap (λ (i : ℕ). wait_in (dec_block m) a.l true i a.r a.tick.0) c.least_of-m.ensures ∙ known_is b c.requires.block_value a.r a.words a.n a.l a.known a.fires a.tick.0 g m d c.if-known.true in record { value = c.wait_list.ensures.value ∙ ap outcome f; block_after = settles b m _ _ _ f c.wait_list.ensures.block_after (λ q. (q.0, same_block b c.requires.block_value a.r a.words a.n a.l a.known a.fires a.tick.0 g m d c.catch_up_if.ensures.block_after_2 q.1.0)) }
+    let f = ap (λ (i : ℕ). wait_in (dec_block m) (Some a.l) i a.r a.tick.0) c.least_of-m.ensures ∙ known_is b c.requires.block_value a.r a.words a.n a.l a.known a.fires a.tick.0 g m d c.if-known.true in record { value = c.wait_list.ensures.value ∙ ap outcome f; block_after = settles b m _ _ _ f c.wait_list.ensures.block_after (λ q. (q.0, same_block b c.requires.block_value a.r a.words a.n a.l a.known a.fires a.tick.0 g m d c.catch_up_if.ensures.block_after_2 q.1.0)) }
 
-pub open_list-x-requires : goal.open_list-x-requires
-open_list-x-requires c =
+pub open_list-objects-requires : goal.open_list-objects-requires
+open_list-objects-requires c =
     let a = c.args in
     let b = a.block.now in
     let k = dec_block b in
     let g = c.requires.ready in
-    let d = c.catch_up_if.ensures.block_after in record { block_len = search rules; block_value = c.catch_up_if.ensures.block_after_2; block_value_2 = same-handles _ k _ d g.handles; words_value = room-caught b c.requires.block_value a.r a.words a.n a.l a.known a.fires a.tick.0 g _ d }
+    let d = c.catch_up_if.ensures.block_after in record { block_value = c.catch_up_if.ensures.block_after_2; block_value_2 = same-handles _ k _ d g.handles; words_value = room-caught b c.requires.block_value a.r a.words a.n a.l a.known a.fires a.tick.0 g _ d }
 
 pub wait_list-requires-2 : goal.wait_list-requires-2
 wait_list-requires-2 c =
@@ -44,7 +43,7 @@ wait_list-requires-2 c =
     let k = dec_block b in
     let g = c.requires.ready in
     let d = c.catch_up_if.ensures.block_after in
-    let o = c.open_list-x.ensures in record { block_len = search rules; block_value = o.sound; block_value_2 = same-handles _ _ _ o.state (same-handles _ k _ d g.handles) }
+    let o = c.open_list-objects.ensures in record { block_value = o.sound; block_value_2 = same-handles _ _ _ o.state (same-handles _ k _ d g.handles) }
 
 pub returns : goal.returns
 returns c =
@@ -54,6 +53,6 @@ returns c =
     let g = c.requires.ready in
     let d = c.catch_up_if.ensures.block_after in
     let m = c.catch_up_if.new.block in
-    let e = c.open_list-x.new.block in
-    let x = c.open_list-x.result in
-    let f = ap (λ (i : ℕ). wait_in (dec_block e) x.objects x.known i a.r a.tick.0) c.least_of-m.ensures ∙ opened-is b c.requires.block_value a.r a.words a.n a.l a.known a.fires a.tick.0 g m d e x c.open_list-x.ensures in record { value = c.wait_list-2.ensures.value ∙ ap outcome f; block_after = settles b e _ _ _ f c.wait_list-2.ensures.block_after (λ q. false-true (sym c.if-known.false ∙ q.1.1)) }
+    let e = c.open_list-objects.new.block in
+    let x = c.open_list-objects.result in
+    let f = ap (λ (i : ℕ). wait_in (dec_block e) x i a.r a.tick.0) c.least_of-m.ensures ∙ opened-is b c.requires.block_value a.r a.words a.n a.l a.known a.fires a.tick.0 g m d e x c.open_list-objects.ensures in record { value = c.wait_list-2.ensures.value ∙ ap outcome f; block_after = settles b e _ _ _ f c.wait_list-2.ensures.block_after (λ q. false-true (sym c.if-known.false ∙ q.1.1)) }

@@ -1,28 +1,30 @@
 use lib.ListN.{take, replicate}
 use mathlib.Core.Path.{sym, ap, ◌∙◌}
 use mathlib.Core.Logic.{inr}
+use Rattle.std.specs.Prelude.{Result, is_err}
+use Rattle.types.specs.declared.refusal.Refusal.{Refusal}
 use Rattle.block.specs.Block.{dec_block}
 use Rattle.svc.specs.Waits.{wait_synchronization_n}
 use Rattle.outcome.specs.declared.Outcome.{Outcome}
-use Rattle.outcome.specs.Outcome.{found-is, left-found}
+use Rattle.outcome.specs.Outcome.{left-found}
+use Rattle.wait_calls.proofs.Ways.{refused-some, refused-none}
 use Rattle.wait_calls.proofs.Whole.{copied}
 use borrow.Author.Rules.{rules}
 use Rattle.wait_calls.proofs.many.wait_saved.Goals as goal
 
-pub returns-then-o-ne0 : goal.returns-then-o-ne0
-returns-then-o-ne0 c =
+pub returns-then-is_err-clause-block_after : goal.returns-then-is_err-clause-block_after
+returns-then-is_err-clause-block_after c =
     let a = c.args in
     let b = a.block.now in
-    let k = dec_block b in
-    let v = wait_synchronization_n k a.r (take a.n a.words) a.tick.0 in
-    let f = sym (found-is v) ∙ ap (λ (o : Outcome). o.found) (sym c.wait_caught-o.ensures.value) in
+    let v = wait_synchronization_n (dec_block b) a.r (take a.n a.words) a.tick.0 in
+    let f = sym (c.is_err.ensures.value ∙ ap (λ (o : Result Outcome Refusal). is_err o) c.wait_caught-o.ensures.value) ∙ c.if-is_err.true in
     let kept = copied _ (replicate 16384 0) b c.copy.ensures (search rules) in
-    let back = copied _ c.wait_caught-o.new.block c.copy.new.b c.copy-then-o-ne0.ensures (search rules) in record { value = c.wait_caught-o.ensures.value; block_after = back ∙ kept ∙ sym (left-found v b (λ z. c.if-o-ne0.true (sym f ∙ z))) }
+    let back = copied _ c.wait_caught-o.new.block c.copy.new.b c.copy-then-is_err.ensures (search rules) in
+    back ∙ kept ∙ sym (left-found v b (refused-some v f))
 
-pub returns-else-o-ne0 : goal.returns-else-o-ne0
-returns-else-o-ne0 c =
+pub returns-else-is_err-clause-block_after : goal.returns-else-is_err-clause-block_after
+returns-else-is_err-clause-block_after c =
     let a = c.args in
-    let b = a.block.now in
-    let k = dec_block b in
-    let v = wait_synchronization_n k a.r (take a.n a.words) a.tick.0 in
-    let f = sym (found-is v) ∙ ap (λ (o : Outcome). o.found) (sym c.wait_caught-o.ensures.value) in record { value = c.wait_caught-o.ensures.value; block_after = c.wait_caught-o.ensures.block_after (inr (f ∙ c.if-o-ne0.false)) }
+    let v = wait_synchronization_n (dec_block a.block.now) a.r (take a.n a.words) a.tick.0 in
+    let f = sym (c.is_err.ensures.value ∙ ap (λ (o : Result Outcome Refusal). is_err o) c.wait_caught-o.ensures.value) ∙ c.if-is_err.false in
+    c.wait_caught-o.ensures.block_after (inr (refused-none v f))

@@ -1,17 +1,22 @@
-use Rattle.laws.specs.Logic.{◌and◌}
+use Rattle.std.proofs.Common.{rules}
+use Rattle.std.specs.Prelude.{◌≡◌}
+use Rattle.laws.specs.Logic.{◌and◌, ◌or◌}
 use Rattle.wait_calls.proofs.room.lacking.Goals as goal
 
-pub returns-then-none : goal.returns-then-none
-returns-then-none c = rw c.if-none.true c.either.ensures
+pub returns-then-thread : goal.returns-then-thread
+unfolding ◌or◌
+returns-then-thread c = rw (c.if-none.true, c.if-thread.true)
 
-pub returns-then-not-one : goal.returns-then-not-one
-unfolding ◌and◌
-returns-then-not-one c = rw (c.if-none.false, c.if-not-one.true)
+pub returns-else-thread : goal.returns-else-thread
+unfolding ◌or◌
+returns-else-thread c = rw (c.if-none.true, c.if-thread.false)
 
-pub returns-then-not-thread : goal.returns-then-not-thread
+pub returns-then-one : goal.returns-then-one
 unfolding ◌and◌
-returns-then-not-thread c = rw (c.if-none.false, c.if-not-one.false, c.if-not-thread.true)
+returns-then-one c =
+    let f : c.if-thread-2.both ≡ (c.args.thread and c.args.process) = search rules in
+    rw (c.if-none.false, c.if-one.true) f
 
-pub returns : goal.returns
+pub returns-else-one : goal.returns-else-one
 unfolding ◌and◌
-returns c = rw (c.if-none.false, c.if-not-one.false, c.if-not-thread.false)
+returns-else-one c = rw (c.if-none.false, c.if-one.false)

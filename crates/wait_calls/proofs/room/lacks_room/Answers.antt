@@ -13,5 +13,5 @@ pub returns : goal.returns
 returns c =
     let s = (dec_block c.args.block.now).objects in
     let f = free-is c.args.block.now 0 c.get32-free.result c.get32-free.ensures in
-    let n = c.next_of-next.ensures ∙ ap (λ (x : Slot). next_of x.object) c.slot_at-x.ensures ∙ ap (λ (o : ℕ). next_of (slot_at s.slots o).object) f in
+    let n = c.next_of.ensures ∙ ap (λ (x : Slot). next_of x.object) c.slot_at-x.ensures ∙ ap (λ (o : ℕ). next_of (slot_at s.slots o).object) f in
     c.lacking.ensures ∙ (λ i. lacking (eqb (f i) 0) (eqb (n i) 0) (c.wants-thread.ensures i) (c.wants-process.ensures i))

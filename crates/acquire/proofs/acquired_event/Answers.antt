@@ -1,4 +1,0 @@
-use Rattle.acquire.proofs.acquired_event.Goals as goal
-
-pub returns : goal.returns
-returns c = rw c.stays_set-b.ensures

@@ -1,4 +1,0 @@
-use Rattle.acquire.proofs.acquired_semaphore.Goals as goal
-
-pub returns : goal.returns
-returns c = rw c.one_less-n.ensures

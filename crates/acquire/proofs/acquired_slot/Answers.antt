@@ -1,4 +1,0 @@
-use Rattle.acquire.proofs.acquired_slot.Goals as goal
-
-pub returns : goal.returns
-returns c = rw c.acquired-y.ensures

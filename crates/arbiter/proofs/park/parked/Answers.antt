@@ -1,4 +1,0 @@
-use Rattle.arbiter.proofs.park.parked.Goals as goal
-
-pub returns : goal.returns
-returns c = rw c.without_wait-c.ensures

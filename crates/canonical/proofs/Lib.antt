@@ -1,0 +1,3 @@
+-- What the proofs of `canonical` share.
+pub mod Tests
+pub mod Words

@@ -1,2 +1,0 @@
--- The stand-in as it is computed.
-pub mod Best

@@ -1,0 +1,3 @@
+-- The laws that the proofs of `scheduler` cite.
+pub mod Places
+pub mod Choice

@@ -1,7 +1,0 @@
-use Rattle.pass.specs.Timers.{lost_object}
-use Rattle.timer_calls.proofs.Named.{put-changed}
-use Rattle.timer_calls.proofs.timers.put_cleared.Goals as goal
-
-pub returns : goal.returns
-returns c = let a = c.args in
-    rw c.content.ensures (put-changed a.block.now c.requires.block_value a.o.0 c.slot_at-x.result c.slot_at-x.ensures lost_object c.lost_object-after.result c.lost_object-after.ensures)
