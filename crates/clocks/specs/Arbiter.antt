@@ -20,7 +20,8 @@ use Rattle.timing.specs.Keeps.{FirstFree}
 use Rattle.clocks.specs.Resolves.{Used, create_object-clock, resolved-clock}
 
 -- ---- the object q of the state k is the arbiter
-park-as : (c : Option ℕ) (k : Kernel) (q a : ℕ) (time : Option Ticks) (tick o : ℕ) → clock_at (park_as c k q a time tick).objects o ≡ clock_at k.objects o
+park-as : (c : Option ℕ) (k : Kernel) (q a : ℕ) (time : Option Ticks) (tick o : ℕ)
+    → clock_at (park_as c k q a time tick).objects o ≡ clock_at k.objects o
 park-as None k q a time tick o = refl
 park-as (Some c) k q a time tick o = push-clock k.objects q c a o
 
@@ -42,7 +43,8 @@ module _ (k : Kernel) (f : FirstFree k.objects) (o : ℕ) (u : Used k.objects o)
   unfolding create_address_arbiter
   create_address_arbiter-clock = create_object-clock k f o u (AddressArbiter (record { waiters = 0 }))
 
-  arbitrate-by : (kind : Option ArbitrationType) (r : Registers) (word tick : ℕ) → clock_at (arbitrate_by kind k r word tick).kernel.objects o ≡ clock_at k.objects o
+  arbitrate-by : (kind : Option ArbitrationType) (r : Registers) (word tick : ℕ)
+      → clock_at (arbitrate_by kind k r word tick).kernel.objects o ≡ clock_at k.objects o
   arbitrate-by None r word tick = refl
   arbitrate-by (Some kind) r word tick =
       let s : ObjectStore = (resolved k r.r0).store in

@@ -50,7 +50,8 @@ module _ (k : Kernel) (p : Parts k) where
       ∙ create-keeps k r.r1 r.r3 r.r0 r.r4 o u
 
 -- ---- `exit_thread`
-exit-as : (c : Option ℕ) (k : Kernel) (o : ℕ) → Used (exit_as c k).kernel.objects o → clock_at (exit_as c k).kernel.objects o ≡ clock_at k.objects o
+exit-as : (c : Option ℕ) (k : Kernel) (o : ℕ) → Used (exit_as c k).kernel.objects o
+    → clock_at (exit_as c k).kernel.objects o ≡ clock_at k.objects o
 exit-as None k o u = refl
 exit-as (Some c) k o u = end-keeps k c o u
 

@@ -40,7 +40,13 @@ set_other ResourceLimit k r a b tick o d = refl
 module _ (k : Kernel) (f : FirstFree k.objects) (o : ℕ) (u : Used k.objects o) (r : Registers) where
   pub create_timer-clock : clock_at (create_timer k r).kernel.objects o ≡ clock_at k.objects o
   unfolding create_timer
-  create_timer-clock = create_object-clock k f o u (Timer (record { reset_type = reset_from_raw r.r1; signaled = false; fire_at = None; interval = record { 0 = 0 } }))
+  create_timer-clock = create_object-clock k f o u
+      (Timer (record {
+        reset_type = reset_from_raw r.r1;
+        signaled = false;
+        fire_at = None;
+        interval = record { 0 = 0 };
+      }))
 
   module _ (tick : ℕ) where
     pub set_timer-clock : eqb (target k r) o ≡ false → clock_at (set_timer k r tick).kernel.objects o ≡ fired_clock tick (clock_at k.objects o)

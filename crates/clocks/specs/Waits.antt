@@ -52,7 +52,8 @@ acquires-leaves : (s : ObjectStore) (os : List ℕ) (w : ℕ) → Leaves s (acqu
 acquires-leaves s os w = record { full = λ e. sym (acquires-full os s w) ∙ e; overflow = acquires-sticks os s w; clock = acquires-clock os s w }
 
 -- ---- the thread is given the objects, or waits and holds them
-begin_as : (c : Option ℕ) (k : Kernel) (l : List ObjectId) (n : ℕ) (all : Bool) (time : Option Ticks) (tick : ℕ) → Leaves k.objects (begin_wait_as c k l n all time tick).objects
+begin_as : (c : Option ℕ) (k : Kernel) (l : List ObjectId) (n : ℕ) (all : Bool) (time : Option Ticks) (tick : ℕ)
+    → Leaves k.objects (begin_wait_as c k l n all time tick).objects
 begin_as None k l n all time tick = leaves-same k.objects
 begin_as (Some c) k l n all time tick = record {
   full = λ e. sym (add_refs-full (take n (ids l)) k.objects) ∙ e;
@@ -60,24 +61,29 @@ begin_as (Some c) k l n all time tick = record {
   clock = add_refs-clock (take n (ids l)) k.objects;
 }
 
-unless-leaves : (k : Kernel) (c : ℕ) (os : List ℕ) (all : Bool) (nanos tick : ℕ) (call : Option WaitSyscall) → Leaves k.objects (wait_unless k c os all nanos tick call).kernel.objects
+unless-leaves : (k : Kernel) (c : ℕ) (os : List ℕ) (all : Bool) (nanos tick : ℕ) (call : Option WaitSyscall)
+    → Leaves k.objects (wait_unless k c os all nanos tick call).kernel.objects
 unfolding begin_wait
 unless-leaves k c os all nanos tick call =
     pick-both (λ (v : Served). Leaves k.objects v.kernel.objects) (eqb nanos 0) _ (wait_on k c os all nanos tick call) (leaves-same k.objects)
     (begin_as k.current_thread k (padded wait_list os) (length os) all (wait_time nanos) tick)
 
-one-leaves : (c : Option ℕ) (k : Kernel) (q nanos tick : ℕ) → Leaves k.objects (wait1_as c k q nanos tick).kernel.objects
+one-leaves : (c : Option ℕ) (k : Kernel) (q nanos tick : ℕ)
+    → Leaves k.objects (wait1_as c k q nanos tick).kernel.objects
 one-leaves None k q nanos tick = leaves-same k.objects
 one-leaves (Some c) k q nanos tick =
-    pick-both (λ (v : Served). Leaves k.objects v.kernel.objects) (is_signaled k.threads (object_at k.objects q) c) _ (wait_unless k c (q ∷ []) false nanos tick (Some WaitSynchronization1))
+    pick-both (λ (v : Served). Leaves k.objects v.kernel.objects) (is_signaled k.threads (object_at k.objects q) c) _
+    (wait_unless k c (q ∷ []) false nanos tick (Some WaitSynchronization1))
     (acquire-leaves k.objects q c) (unless-leaves k c (q ∷ []) false nanos tick (Some WaitSynchronization1))
 
-take-leaves : (i : Option ℕ) (k : Kernel) (c : ℕ) (os : List ℕ) (all : Bool) (nanos tick : ℕ) → Leaves k.objects (take_at i k c os all nanos tick).kernel.objects
+take-leaves : (i : Option ℕ) (k : Kernel) (c : ℕ) (os : List ℕ) (all : Bool) (nanos tick : ℕ)
+    → Leaves k.objects (take_at i k c os all nanos tick).kernel.objects
 take-leaves None k c os all nanos tick = unless-leaves k c os all nanos tick (Some WaitSynchronizationN)
 take-leaves (Some i) k c os all nanos tick =
     pick-both (Leaves k.objects) all (acquires k.objects os c) (acquire k.objects (get_or os i 0) c) (acquires-leaves k.objects os c) (acquire-leaves k.objects (get_or os i 0) c)
 
-many-leaves : (c : Option ℕ) (k : Kernel) (os : List ℕ) (all : Bool) (nanos tick : ℕ) → Leaves k.objects (wait_nas c k os all nanos tick).kernel.objects
+many-leaves : (c : Option ℕ) (k : Kernel) (os : List ℕ) (all : Bool) (nanos tick : ℕ)
+    → Leaves k.objects (wait_nas c k os all nanos tick).kernel.objects
 many-leaves None k os all nanos tick = leaves-same k.objects
 many-leaves (Some c) k os all nanos tick = take-leaves (satisfied_at k.threads k.objects c all os) k c os all nanos tick
 

@@ -54,10 +54,12 @@ use Rattle.clocks.specs.Resolves.{entry-is}
 
 -- ---- from k to k': the current thread, if it is blocked afterwards, waits for a
 abbrev Asks : Kernel → Awaited → Kernel → Type 0
-Asks k a k' = (c : ℕ) → k.current_thread ≡ Some c → Runs k c → Blocked k'.threads c → awaited_by (thread_at k'.threads c) ≡ a
+Asks k a k' = (c : ℕ) → k.current_thread ≡ Some c → Runs k c → Blocked k'.threads c
+    → awaited_by (thread_at k'.threads c) ≡ a
 
 -- no thread is touched, so it is not blocked
-not-parked : {A : Type 0} (k k' : Kernel) → Same k k' → (c : ℕ) → k.current_thread ≡ Some c → Runs k c → Blocked k'.threads c → A
+not-parked : {A : Type 0} (k k' : Kernel) → Same k k' → (c : ℕ) → k.current_thread ≡ Some c → Runs k c
+    → Blocked k'.threads c → A
 not-parked k k' s c e r b = false-true (sym ((same-calm k k' s).free c e r) ∙ b)
 
 -- ---- 0x0A
@@ -71,24 +73,28 @@ unfolding sleep_thread
 sleep_asks k r tick = sleep-for (sleep_ticks k (pair r.r0 r.r1) tick) k tick
 
 -- ---- 0x22
-park-as : (t : Option ℕ) (k : Kernel) (o a : ℕ) (w : Option Ticks) (tick c : ℕ) → t ≡ Some c → Runs k c → awaited_by (thread_at (park_as t k o a w tick).threads c) ≡ signal (Some a)
+park-as : (t : Option ℕ) (k : Kernel) (o a : ℕ) (w : Option Ticks) (tick c : ℕ) → t ≡ Some c → Runs k c
+    → awaited_by (thread_at (park_as t k o a w tick).threads c) ≡ signal (Some a)
 park-as t k o a w tick c e r =
     ap (λ (x : Option ℕ). awaited_by (thread_at (park_as x k o a w tick).threads c)) e
     ∙ ap awaited_by (thread-same k.threads c (parked (thread_at k.threads c) a (wake_tick w tick)) (running_in k.threads c r))
 
-below_asks : (kind : ArbitrationType) (k : Kernel) (o a value word n tick : ℕ) → Asks k (signal (Some a)) (wait_below kind k o a value word n tick).kernel
+below_asks : (kind : ArbitrationType) (k : Kernel) (o a value word n tick : ℕ)
+    → Asks k (signal (Some a)) (wait_below kind k o a value word n tick).kernel
 below_asks kind k o a value word n tick =
     pick-both (λ (x : Served). Asks k (signal (Some a)) x.kernel) (ltb (biased word) (biased value)) _ _
     (λ c e r b. park-as k.current_thread k o a (park_time kind n) tick c e r) (λ c e r b. not-parked k k (record { threads = refl; relief = refl }) c e r b)
 
-arbitrate-as : (kind : ArbitrationType) (k : Kernel) (o a value word n tick : ℕ) → Asks k (signal (Some a)) (arbitrate_as kind k o a value word n tick).kernel
+arbitrate-as : (kind : ArbitrationType) (k : Kernel) (o a value word n tick : ℕ)
+    → Asks k (signal (Some a)) (arbitrate_as kind k o a value word n tick).kernel
 arbitrate-as Signal k o a value word n tick = λ c e r b. false-true (sym (signal-free k o a value c r) ∙ b)
 arbitrate-as WaitIfLessThan k o a value word n tick = below_asks WaitIfLessThan k o a value word n tick
 arbitrate-as DecrementAndWaitIfLessThan k o a value word n tick = below_asks DecrementAndWaitIfLessThan k o a value word n tick
 arbitrate-as WaitIfLessThanWithTimeout k o a value word n tick = below_asks WaitIfLessThanWithTimeout k o a value word n tick
 arbitrate-as DecrementAndWaitIfLessThanWithTimeout k o a value word n tick = below_asks DecrementAndWaitIfLessThanWithTimeout k o a value word n tick
 
-arbitrate-by : (o : Option ArbitrationType) (k : Kernel) (r : Registers) (word tick : ℕ) → Asks k (signal (Some r.r1)) (arbitrate_by o k r word tick).kernel
+arbitrate-by : (o : Option ArbitrationType) (k : Kernel) (r : Registers) (word tick : ℕ)
+    → Asks k (signal (Some r.r1)) (arbitrate_by o k r word tick).kernel
 arbitrate-by None k r word tick = λ c e x b. not-parked k k (record { threads = refl; relief = refl }) c e x b
 arbitrate-by (Some kind) k r word tick =
     let x : Resolved = resolved k r.r0 in
@@ -97,7 +103,8 @@ arbitrate-by (Some kind) k r word tick =
     (λ c e r b. not-parked k m (record { threads = refl; relief = refl }) c e r b)
     (arbitrate-as kind m x.object.0 r.r1 r.r3 word (pair r.r4 r.r5) tick)
 
-arbitrate_asks : (k : Kernel) (r : Registers) (word tick : ℕ) → Asks k (signal (Some r.r1)) (arbitrate_address k r word tick).kernel
+arbitrate_asks : (k : Kernel) (r : Registers) (word tick : ℕ)
+    → Asks k (signal (Some r.r1)) (arbitrate_address k r word tick).kernel
 unfolding arbitrate_address
 arbitrate_asks k r word tick = arbitrate-by (arbitration_from_raw r.r2) k r word tick
 
@@ -111,7 +118,8 @@ abbrev kept_of : ObjectStore → KeptIds
 kept_of s = record { threads = s.thread_objects; process = s.process_object }
 
 -- what names an object looks at nothing else of a store
-named_as : (s s' : ObjectStore) → kept_of s' ≡ kept_of s → (c : Option ℕ) (t : HandleTable) (hs : List ℕ) → map (named c t s') hs ≡ map (named c t s) hs
+named_as : (s s' : ObjectStore) → kept_of s' ≡ kept_of s → (c : Option ℕ) (t : HandleTable) (hs : List ℕ)
+    → map (named c t s') hs ≡ map (named c t s) hs
 named_as s s' e c t hs =
     ap (λ (x : KeptIds). map (λ (h : ℕ). pick (eqb h 0xFFFF8000) (own_object c x.threads) (pick (eqb h 0xFFFF8001) x.process.0 (entry_of t.entries h))) hs) e
 
@@ -124,7 +132,8 @@ unfolding add_refs
 refs-kept [] s = refl
 refs-kept (o ∷ os) s = refs-kept os (add_ref s o) ∙ ref-kept s o
 
-begin-kept : (t : Option ℕ) (k : Kernel) (l : List ObjectId) (n : ℕ) (all : Bool) (w : Option Ticks) (tick : ℕ) → kept_of (begin_wait_as t k l n all w tick).objects ≡ kept_of k.objects
+begin-kept : (t : Option ℕ) (k : Kernel) (l : List ObjectId) (n : ℕ) (all : Bool) (w : Option Ticks) (tick : ℕ)
+    → kept_of (begin_wait_as t k l n all w tick).objects ≡ kept_of k.objects
 begin-kept None k l n all w tick = refl
 begin-kept (Some c) k l n all w tick = refs-kept _ k.objects
 
@@ -146,7 +155,8 @@ module _ (c : Option ℕ) (t : HandleTable) where
       go false false = sym (entry-is t.entries h)
 
   -- what is made for one handle takes nothing from another
-  thread-keeps : (s : ObjectStore) (i g : ℕ) → c ≡ Some i → named c t s g ≢ 0 → named c t (thread_object s i) g ≡ named c t s g
+  thread-keeps : (s : ObjectStore) (i g : ℕ) → c ≡ Some i → named c t s g ≢ 0
+      → named c t (thread_object s i) g ≡ named c t s g
   unfolding thread_object insert
   thread-keeps s i g e n = go (eqb (kept_at s i) 0) refl
     where
@@ -176,7 +186,8 @@ module _ (c : Option ℕ) (t : HandleTable) where
       go true f = made (eqb g 0xFFFF8000) (eqb g 0xFFFF8001) f n
       go false f = refl
 
-  current-keeps : (s : ObjectStore) (g : ℕ) (x : Option ℕ) → c ≡ x → named c t s g ≢ 0 → named c t (of_current s x).store g ≡ named c t s g
+  current-keeps : (s : ObjectStore) (g : ℕ) (x : Option ℕ) → c ≡ x → named c t s g ≢ 0
+      → named c t (of_current s x).store g ≡ named c t s g
   current-keeps s g None e n = refl
   current-keeps s g (Some i) e n = thread-keeps s i g e n
 
@@ -224,7 +235,8 @@ module _ (k : Kernel) (all : Bool) (hs : List ℕ) where
     on_asks d w c e r b =
         let m : Kernel = begin_wait k (padded wait_list os) (length os) all (wait_time n) tick in
         let g : map (named (Some c) k.handles m.objects) hs ≡ os =
-        named_as k.objects m.objects (begin-kept k.current_thread k (padded wait_list os) (length os) all (wait_time n) tick) (Some c) k.handles hs
+        named_as k.objects m.objects (begin-kept k.current_thread k (padded wait_list os) (length os) all
+        (wait_time n) tick) (Some c) k.handles hs
         ∙ ap (λ (x : Option ℕ). map (named x k.handles k.objects) hs) (sym e) ∙ found in
         thread-f awaited_by m.threads d _ c refl
         ∙ ap awaited_by (begin-own k c e (running_in k.threads c r) (padded wait_list os) (length os) all (wait_time n) tick)
@@ -241,12 +253,15 @@ module _ (k : Kernel) (all : Bool) (hs : List ℕ) where
     wait_n_as None = left k (record { threads = refl; relief = refl })
     wait_n_as (Some d) = take_asks (satisfied_at k.threads k.objects d all os) d
 
-wait1-as : (t : Option ℕ) (k : Kernel) (h o n tick : ℕ) → named k.current_thread k.handles k.objects h ≡ o → AsksNamed k false (h ∷ []) (wait1_as t k o n tick).kernel
+wait1-as : (t : Option ℕ) (k : Kernel) (h o n tick : ℕ) → named k.current_thread k.handles k.objects h ≡ o
+    → AsksNamed k false (h ∷ []) (wait1_as t k o n tick).kernel
 wait1-as None k h o n tick e = left k false (h ∷ []) k (record { threads = refl; relief = refl })
 wait1-as (Some d) k h o n tick e =
-    pick-both (λ (x : Served). AsksNamed k false (h ∷ []) x.kernel) (is_signaled k.threads (object_at k.objects o) d) _ (wait_unless k d (o ∷ []) false n tick (Some WaitSynchronization1))
+    pick-both (λ (x : Served). AsksNamed k false (h ∷ []) x.kernel) (is_signaled k.threads (object_at k.objects o) d) _
+    (wait_unless k d (o ∷ []) false n tick (Some WaitSynchronization1))
     (left k false (h ∷ []) (with_objects k (acquire k.objects o d)) (record { threads = refl; relief = refl }))
-    (unless_asks k false (h ∷ []) (o ∷ []) (omega arith) (ap (λ (x : ℕ). x ∷ []) e) n tick d (Some WaitSynchronization1))
+    (unless_asks k false (h ∷ []) (o ∷ []) (omega arith) (ap (λ (x : ℕ). x ∷ []) e) n tick d
+    (Some WaitSynchronization1))
 
 wait1_asks : (k : Kernel) (r : Registers) (tick : ℕ) → AsksNamed k false (r.r0 ∷ []) (wait_synchronization1 k r tick).kernel
 unfolding wait_synchronization1
@@ -270,19 +285,24 @@ wait_n_asks k r words tick few =
 -- ---- every call that begins a timed wait
 pub call_asks : (number : ℕ) (k : Kernel) (r : Registers) (words : List ℕ) (tick : ℕ) → (eqb number 0x25 ≡ true → length words ≤ wait_list) → timed_wait? number r ≡ true → runs? k ≡ true
     → (c : ℕ) → k.current_thread ≡ Some c → Blocked (call number k r words tick).kernel.threads c
-    → awaited_by (thread_at (call number k r words tick).kernel.threads c) ≡ asks_for number r words (named (Some c) k.handles (call number k r words tick).kernel.objects)
+    → awaited_by (thread_at (call number k r words tick).kernel.threads c) ≡ asks_for number r words
+    (named (Some c) k.handles (call number k r words tick).kernel.objects)
 unfolding timed_wait? call ◌or◌ ◌and◌
 call_asks number k r words tick few timed run c e b = go (eqb number 0x0A) (eqb number 0x24) (eqb number 0x25) (eqb number 0x22) refl refl refl refl timed
   where
     At : ℕ → Type 0
     At m = Blocked (call m k r words tick).kernel.threads c
-        → awaited_by (thread_at (call m k r words tick).kernel.threads c) ≡ asks_for m r words (named (Some c) k.handles (call m k r words tick).kernel.objects)
+        → awaited_by (thread_at (call m k r words tick).kernel.threads c) ≡ asks_for m r words
+        (named (Some c) k.handles (call m k r words tick).kernel.objects)
 
-    at : (m : ℕ) → eqb number m ≡ true → At m → awaited_by (thread_at (call number k r words tick).kernel.threads c) ≡ asks_for number r words (named (Some c) k.handles (call number k r words tick).kernel.objects)
+    at : (m : ℕ) → eqb number m ≡ true → At m
+        → awaited_by (thread_at (call number k r words tick).kernel.threads c) ≡ asks_for number r words
+        (named (Some c) k.handles (call number k r words tick).kernel.objects)
     at m f h = subst At (sym (eqb-true number m f)) h b
 
     go : (p q u v : Bool) → eqb number 0x0A ≡ p → eqb number 0x24 ≡ q → eqb number 0x25 ≡ u → eqb number 0x22 ≡ v → p or (q or (u or (v and (eqb r.r2 3 or eqb r.r2 4)))) ≡ true
-        → awaited_by (thread_at (call number k r words tick).kernel.threads c) ≡ asks_for number r words (named (Some c) k.handles (call number k r words tick).kernel.objects)
+        → awaited_by (thread_at (call number k r words tick).kernel.threads c) ≡ asks_for number r words
+        (named (Some c) k.handles (call number k r words tick).kernel.objects)
     go true q u v f g h i w = at 0x0A f (sleep_asks k r tick c e (runs-current k run c e))
     go false true u v f g h i w = at 0x24 g (wait1_asks k r tick c e (runs-current k run c e))
     go false false true v f g h i w = at 0x25 h (wait_n_asks k r words tick (few h) c e (runs-current k run c e))

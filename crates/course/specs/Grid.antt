@@ -45,8 +45,12 @@ on-grid t a b ticks f = record {
       (subst (λ (m : ℕ). (k : ℕ) × Least (Passes (t + (nanos_to_ticks (record { 0 = a })).0) m ticks) k × (fired_dues (nanos_to_ticks (record { 0 = b })).0 ticks (cut_off (t + (nanos_to_ticks (record { 0 = a })).0)) ≡ cut_off (t + (nanos_to_ticks (record { 0 = a })).0 + k * m)) × (t + (nanos_to_ticks (record { 0 = a })).0 + k * m ≤ max_tick → InStep a b k (t + (nanos_to_ticks (record { 0 = a })).0 + k * m - t))) q
       (g.0, g.1, g.2, λ h. g.3));
   single = λ A p q.
-      subst (λ (n : ℕ). fired_dues (nanos_to_ticks (record { 0 = b })).0 ticks (cut_off (t + (nanos_to_ticks (record { 0 = a })).0)) ≡ pick (reached (least (t + n) max_tick) ticks) None (cut_off (t + n))) p
-      (subst (λ (m : ℕ). fired_dues m ticks (cut_off (t + (nanos_to_ticks (record { 0 = a })).0)) ≡ pick (reached (least (t + (nanos_to_ticks (record { 0 = a })).0) max_tick) ticks) None (cut_off (t + (nanos_to_ticks (record { 0 = a })).0))) (sym q)
+      subst (λ (n : ℕ). fired_dues (nanos_to_ticks (record { 0 = b })).0 ticks
+      (cut_off (t + (nanos_to_ticks (record { 0 = a })).0)) ≡ pick (reached (least (t + n) max_tick) ticks) None
+      (cut_off (t + n))) p
+      (subst (λ (m : ℕ). fired_dues m ticks (cut_off (t + (nanos_to_ticks (record { 0 = a })).0)) ≡ pick
+      (reached (least (t + (nanos_to_ticks (record { 0 = a })).0) max_tick) ticks) None
+      (cut_off (t + (nanos_to_ticks (record { 0 = a })).0))) (sym q)
       (once ticks (record { 0 = least (t + (nanos_to_ticks (record { 0 = a })).0) max_tick })));
 }
 

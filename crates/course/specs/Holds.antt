@@ -47,9 +47,11 @@ module _ (e : Event) (es : List Event) (real : Real e) (course : Course e.after 
             ∙ call-wake b.number e.before x b.words t (sound-parts e.before a.0) a.1 τ b.who p (timed_read b.number b.registers ∙ b.wait) m
             ∙ ap (λ (y : ℕ). runs_out y t) n-is;
         for =
-            subst (λ (y : Kernel). awaited_by (thread_at y.threads τ) ≡ asks_for b.number b.registers b.words (named (Some τ) e.before.handles y.objects)) (sym f)
+            subst (λ (y : Kernel). awaited_by (thread_at y.threads τ) ≡ asks_for b.number b.registers b.words
+            (named (Some τ) e.before.handles y.objects)) (sym f)
             (call_asks b.number e.before x b.words t a.3 (timed_read b.number b.registers ∙ b.wait) a.1 τ b.who p
-            ∙ asks_read b.number b.registers b.words (named (Some τ) e.before.handles (call b.number e.before x b.words t).kernel.objects));
+            ∙ asks_read b.number b.registers b.words
+            (named (Some τ) e.before.handles (call b.number e.before x b.words t).kernel.objects));
       }
 
   pub ends : Ends e es

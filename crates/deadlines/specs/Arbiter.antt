@@ -126,24 +126,28 @@ signal-effect k o a value timed n tick =
     }
 
 -- ---- kinds 1 to 4
-park-other : (t : Option ℕ) (k : Kernel) (o a : ℕ) (time : Option Ticks) (tick w : ℕ) → t ≢ Some w → thread_at (park_as t k o a time tick).threads w ≡ thread_at k.threads w
+park-other : (t : Option ℕ) (k : Kernel) (o a : ℕ) (time : Option Ticks) (tick w : ℕ) → t ≢ Some w
+    → thread_at (park_as t k o a time tick).threads w ≡ thread_at k.threads w
 park-other None k o a time tick w h = refl
 park-other (Some c) k o a time tick w h = thread-other k.threads c w _ (λ e. h (ap Some (sym e)))
 
-park-own : (k : Kernel) (c : ℕ) → k.current_thread ≡ Some c → c < length k.threads → (o a : ℕ) (time : Option Ticks) (tick : ℕ)
+park-own : (k : Kernel) (c : ℕ) → k.current_thread ≡ Some c → c < length k.threads
+    → (o a : ℕ) (time : Option Ticks) (tick : ℕ)
     → (thread_at (park k o a time tick).threads c).wakeup_at ≡ wake_tick time tick
 park-own k c e l o a time tick =
     ap (λ (t : Option ℕ). (thread_at (park_as t k o a time tick).threads c).wakeup_at) e
     ∙ ap (λ (t : Thread). t.wakeup_at) (thread-same k.threads c (parked (thread_at k.threads c) a (wake_tick time tick)) l)
 
-park-relief : (t : Option ℕ) (k : Kernel) (o a : ℕ) (time : Option Ticks) (tick : ℕ) → (park_as t k o a time tick).relief ≡ k.relief
+park-relief : (t : Option ℕ) (k : Kernel) (o a : ℕ) (time : Option Ticks) (tick : ℕ)
+    → (park_as t k o a time tick).relief ≡ k.relief
 park-relief None k o a time tick = refl
 park-relief (Some c) k o a time tick = refl
 
 park-time : (kind : ArbitrationType) (n tick : ℕ) → has_timeout kind ≡ true → Timed n tick → wake_tick (park_time kind n) tick ≡ runs_out n tick
 park-time kind n tick t s =
     ap (λ (d : Option Ticks). wake_tick d tick)
-    (pick_yes (has_timeout kind and not (negative n)) (Some (nanos_to_ticks (record { 0 = n }))) None (true-and (has_timeout kind) (not (negative n)) t (ap not (timed_negative n tick s))))
+    (pick_yes (has_timeout kind and not (negative n)) (Some (nanos_to_ticks (record { 0 = n }))) None
+    (true-and (has_timeout kind) (not (negative n)) t (ap not (timed_negative n tick s))))
     ∙ ap (λ (m : ℕ). Some (record { 0 = m })) (timed_out n tick s)
 
 abbrev Below : ArbitrationType → Kernel → ℕ → ℕ → Served → Type 0
@@ -180,7 +184,8 @@ for-parked DecrementAndWaitIfLessThan k x r w e = false-true e
 for-parked WaitIfLessThanWithTimeout k x r w e = false-true e
 for-parked DecrementAndWaitIfLessThanWithTimeout k x r w e = false-true e
 
-pub if_parked : (o : Option ArbitrationType) (k : Kernel) (r : Registers) (w : ℕ) → contains (woken_if o k r) w ≡ true → parked_at (thread_at k.threads w) r.r1 ≡ true
+pub if_parked : (o : Option ArbitrationType) (k : Kernel) (r : Registers) (w : ℕ) → contains (woken_if o k r) w ≡ true
+    → parked_at (thread_at k.threads w) r.r1 ≡ true
 unfolding contains
 if_parked None k r w e = false-true e
 if_parked (Some kind) k r w e = for-parked kind k (resolved k r.r0) r w e
@@ -194,7 +199,8 @@ is_signal (Some DecrementAndWaitIfLessThan) = false
 is_signal (Some WaitIfLessThanWithTimeout) = false
 is_signal (Some DecrementAndWaitIfLessThanWithTimeout) = false
 
-woken-signal : (o : Option ArbitrationType) (k : Kernel) (r : Registers) (w : ℕ) → contains (woken_if o k r) w ≡ true → is_signal o ≡ true
+woken-signal : (o : Option ArbitrationType) (k : Kernel) (r : Registers) (w : ℕ) → contains (woken_if o k r) w ≡ true
+    → is_signal o ≡ true
 unfolding contains
 woken-signal None k r w e = e
 woken-signal (Some Signal) k r w e = refl
@@ -210,7 +216,8 @@ signal_raw n e = go (eqb n 0) (eqb n 1) (eqb n 2) (eqb n 3) (eqb n 4) e
         → is_signal
         (cond a (Some Signal)
         (cond b (Some WaitIfLessThan)
-        (cond c (Some DecrementAndWaitIfLessThan) (cond d (Some WaitIfLessThanWithTimeout) (cond f (Some DecrementAndWaitIfLessThanWithTimeout) None)))))
+        (cond c (Some DecrementAndWaitIfLessThan)
+        (cond d (Some WaitIfLessThanWithTimeout) (cond f (Some DecrementAndWaitIfLessThanWithTimeout) None)))))
         ≡ true → a ≡ true
     go true b c d f h = refl
     go false true c d f h = h
@@ -247,8 +254,10 @@ module _ (k : Kernel) (x : Resolved) (r : Registers) (word tick : ℕ) where
   for-effect WaitIfLessThanWithTimeout = below WaitIfLessThanWithTimeout
   for-effect DecrementAndWaitIfLessThanWithTimeout = below DecrementAndWaitIfLessThanWithTimeout
 
-by_effect : (o : Option ArbitrationType) (k : Kernel) (r : Registers) (word tick : ℕ) → Effect k (woken_if o k r) true (timed_kind o) (pair r.r4 r.r5) tick (arbitrate_by o k r word tick).kernel
-by_effect None k r word tick = same_effect k k (record { threads = refl; relief = refl }) true false (pair r.r4 r.r5) tick
+by_effect : (o : Option ArbitrationType) (k : Kernel) (r : Registers) (word tick : ℕ)
+    → Effect k (woken_if o k r) true (timed_kind o) (pair r.r4 r.r5) tick (arbitrate_by o k r word tick).kernel
+by_effect None k r word tick = same_effect k k (record { threads = refl; relief = refl }) true false
+    (pair r.r4 r.r5) tick
 by_effect (Some kind) k r word tick = for-effect k (resolved k r.r0) r word tick kind
 
 pub arbitrate_effect : (k : Kernel) (r : Registers) (word tick : ℕ)

@@ -7,7 +7,8 @@ use Rattle.timing.specs.Wait.{wait_of}
 use Rattle.svc.specs.Collect.{collect_as, collect}
 
 -- every wait stays
-wait_as : (c : Option ℕ) (k : Kernel) (w : ℕ) → wait_of (thread_at (collect_as c k).threads w) ≡ wait_of (thread_at k.threads w)
+wait_as : (c : Option ℕ) (k : Kernel) (w : ℕ)
+    → wait_of (thread_at (collect_as c k).threads w) ≡ wait_of (thread_at k.threads w)
 wait_as None k w = refl
 wait_as (Some c) k w = thread-f wait_of k.threads c _ w refl
 

@@ -50,7 +50,8 @@ running_in ts c e = live_in ts c (running_dead (thread_at ts c).status e)
 -- a guest call is served only while the current thread runs (question 4), so a blocked thread is another one
 pub blocked-other : (k : Kernel) → runs? k ≡ true → (w : ℕ) → Blocked k.threads w → k.current_thread ≢ Some w
 unfolding runs?
-blocked-other k e w b h = false-true (sym (running_status (thread_at k.threads w).status (sym (ap (λ (o : Option ℕ). runs_as o k.threads) h) ∙ e)) ∙ b)
+blocked-other k e w b h = false-true
+    (sym (running_status (thread_at k.threads w).status (sym (ap (λ (o : Option ℕ). runs_as o k.threads) h) ∙ e)) ∙ b)
 
 pub runs-current : (k : Kernel) → runs? k ≡ true → (c : ℕ) → k.current_thread ≡ Some c → Runs k c
 unfolding runs?
@@ -90,7 +91,8 @@ pub record Effect (k : Kernel) (woken : List ℕ) (parks timed : Bool) (n tick :
 
 -- ---- a call that wakes nobody and parks nobody
 pub record Calm (k k' : Kernel) : Type 0 where
-  pub waits : (w : ℕ) → Blocked k.threads w → k.current_thread ≢ Some w → wait_of (thread_at k'.threads w) ≡ wait_of (thread_at k.threads w)
+  pub waits : (w : ℕ) → Blocked k.threads w → k.current_thread ≢ Some w
+      → wait_of (thread_at k'.threads w) ≡ wait_of (thread_at k.threads w)
   pub free : (c : ℕ) → k.current_thread ≡ Some c → Runs k c → is_blocked (thread_at k'.threads c).status ≡ false
   pub relief : k'.relief ≡ k.relief
 

@@ -83,7 +83,8 @@ module _ (number : ℕ) (k : Kernel) (r : Registers) (words : List ℕ) (tick : 
     call-waits w b e = (call-effect k r tick number words p).waits w b (blocked-other k run w b) e
 
     -- and a wait of n nanoseconds runs out as many ticks after the call's
-    pub call-wake : (c : ℕ) → k.current_thread ≡ Some c → Blocked after.threads c → timed_wait? number r ≡ true → Timed (wait_nanos number r) tick
+    pub call-wake : (c : ℕ) → k.current_thread ≡ Some c → Blocked after.threads c → timed_wait? number r ≡ true
+        → Timed (wait_nanos number r) tick
         → (thread_at after.threads c).wakeup_at ≡ runs_out (wait_nanos number r) tick
     call-wake c e b t s = (call-effect k r tick number words p).wake c e (runs-current k run c e) b t s
 

@@ -40,17 +40,21 @@ create_thread-calm k r p = record {
 }
 
 -- ---- 0x09: the current thread is Dead afterwards, and no other one is touched
-exit-as : (o : Option ℕ) (k : Kernel) (w : ℕ) → o ≢ Some w → thread_at (exit_as o k).kernel.threads w ≡ thread_at k.threads w
+exit-as : (o : Option ℕ) (k : Kernel) (w : ℕ) → o ≢ Some w
+    → thread_at (exit_as o k).kernel.threads w ≡ thread_at k.threads w
 exit-as None k w h = refl
 exit-as (Some c) k w h = end-other k c w (λ e. h (ap Some (sym e)))
 
-pub exit_other : (k : Kernel) (w : ℕ) → k.current_thread ≢ Some w → thread_at (exit_thread k).kernel.threads w ≡ thread_at k.threads w
+pub exit_other : (k : Kernel) (w : ℕ) → k.current_thread ≢ Some w
+    → thread_at (exit_thread k).kernel.threads w ≡ thread_at k.threads w
 unfolding exit_thread
 exit_other k w h = exit-as k.current_thread k w h
 
-pub exit_dead : (k : Kernel) (c : ℕ) → k.current_thread ≡ Some c → Runs k c → (thread_at (exit_thread k).kernel.threads c).status ≡ Dead
+pub exit_dead : (k : Kernel) (c : ℕ) → k.current_thread ≡ Some c → Runs k c
+    → (thread_at (exit_thread k).kernel.threads c).status ≡ Dead
 unfolding exit_thread
-exit_dead k c e x = ap (λ (o : Option ℕ). (thread_at (exit_as o k).kernel.threads c).status) e ∙ end-dead k c (running_in k.threads c x)
+exit_dead k c e x = ap (λ (o : Option ℕ). (thread_at (exit_as o k).kernel.threads c).status) e
+    ∙ end-dead k c (running_in k.threads c x)
 
 exit_flag : (o : Option ℕ) (k : Kernel) → (exit_as o k).kernel.relief ≡ k.relief
 exit_flag None k = refl
@@ -80,7 +84,8 @@ set_priority-calm k r = priority_as (resolve_thread k r.r0) k r.r1
 
 -- ---- 0x0A
 -- how long a thread ran is no part of a wait
-pub since-wait : (o : Option ℕ) (k : Kernel) (tick w : ℕ) → wait_of (thread_at (runs_since o k tick).threads w) ≡ wait_of (thread_at k.threads w)
+pub since-wait : (o : Option ℕ) (k : Kernel) (tick w : ℕ)
+    → wait_of (thread_at (runs_since o k tick).threads w) ≡ wait_of (thread_at k.threads w)
 since-wait None k tick w = refl
 since-wait (Some c) k tick w = thread-f wait_of k.threads c _ w refl
 
@@ -89,7 +94,8 @@ since-relief None k tick = refl
 since-relief (Some c) k tick = refl
 
 -- another thread is left
-sleep-waits : (d : Option Ticks) (k : Kernel) (tick w : ℕ) → k.current_thread ≢ Some w → wait_of (thread_at (sleep_for d k tick).threads w) ≡ wait_of (thread_at k.threads w)
+sleep-waits : (d : Option Ticks) (k : Kernel) (tick w : ℕ) → k.current_thread ≢ Some w
+    → wait_of (thread_at (sleep_for d k tick).threads w) ≡ wait_of (thread_at k.threads w)
 sleep-waits None k tick w h = since-wait k.current_thread k tick w
 sleep-waits (Some d) k tick w h = ap wait_of (sleep-other k d.0 tick w h)
 
@@ -106,7 +112,8 @@ sleep_thread-effect k r tick =
       wakes = λ w e. false-true e;
       parked = λ c e x b. refl;
       wake = λ c e x b t s.
-          ap (λ (d : Option Ticks). (thread_at (sleep_for d k tick).threads c).wakeup_at) (pick_no (eqb n 0) _ (Some (nanos_to_ticks (record { 0 = n }))) (timed_zero n tick s))
+          ap (λ (d : Option Ticks). (thread_at (sleep_for d k tick).threads c).wakeup_at)
+          (pick_no (eqb n 0) _ (Some (nanos_to_ticks (record { 0 = n }))) (timed_zero n tick s))
           ∙ ap (λ (y : Thread). y.wakeup_at) (sleep-own k c e (running_in k.threads c x) (nanos_to_ticks (record { 0 = n })).0 tick)
           ∙ ap (λ (m : ℕ). Some (record { 0 = m })) (timed_out n tick s);
       relief = sleep-flag (sleep_ticks k n tick) k tick;

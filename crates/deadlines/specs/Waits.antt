@@ -35,11 +35,13 @@ Waits k n tick x = Effect k [] true true n tick x.kernel
 -- the time of such a wait
 wait-time : (n tick : ℕ) → Timed n tick → wake_tick (wait_time n) tick ≡ runs_out n tick
 wait-time n tick t =
-    ap (λ (d : Option Ticks). wake_tick d tick) (pick_no (negative n) _ (Some (nanos_to_ticks (record { 0 = n }))) (timed_negative n tick t))
+    ap (λ (d : Option Ticks). wake_tick d tick)
+    (pick_no (negative n) _ (Some (nanos_to_ticks (record { 0 = n }))) (timed_negative n tick t))
     ∙ ap (λ (m : ℕ). Some (record { 0 = m })) (timed_out n tick t)
 
 -- the call is noted in the thread: no part of its wait
-on_effect : (k : Kernel) (c : ℕ) (os : List ℕ) (all : Bool) (n tick : ℕ) (call : Option WaitSyscall) → Waits k n tick (wait_on k c os all n tick call)
+on_effect : (k : Kernel) (c : ℕ) (os : List ℕ) (all : Bool) (n tick : ℕ) (call : Option WaitSyscall)
+    → Waits k n tick (wait_on k c os all n tick call)
 unfolding contains
 on_effect k c os all n tick call =
     let b : Kernel = begin_wait k (padded wait_list os) (length os) all (wait_time n) tick in
@@ -58,15 +60,18 @@ on_effect k c os all n tick call =
 left : (k : Kernel) (n tick : ℕ) → Effect k [] true true n tick k
 left k n tick = same_effect k k (record { threads = refl; relief = refl }) true true n tick
 
-unless-effect : (k : Kernel) (c : ℕ) (os : List ℕ) (all : Bool) (n tick : ℕ) (call : Option WaitSyscall) → Waits k n tick (wait_unless k c os all n tick call)
+unless-effect : (k : Kernel) (c : ℕ) (os : List ℕ) (all : Bool) (n tick : ℕ) (call : Option WaitSyscall)
+    → Waits k n tick (wait_unless k c os all n tick call)
 unless-effect k c os all n tick call = pick-both (Waits k n tick) (eqb n 0) _ (wait_on k c os all n tick call) (left k n tick) (on_effect k c os all n tick call)
 
 -- ---- 0x24
 wait1-as : (t : Option ℕ) (k : Kernel) (o n tick : ℕ) → Waits k n tick (wait1_as t k o n tick)
 wait1-as None k o n tick = left k n tick
 wait1-as (Some c) k o n tick =
-    pick-both (Waits k n tick) (is_signaled k.threads (object_at k.objects o) c) _ (wait_unless k c (o ∷ []) false n tick (Some WaitSynchronization1))
-    (same_effect k _ (record { threads = refl; relief = refl }) true true n tick) (unless-effect k c (o ∷ []) false n tick (Some WaitSynchronization1))
+    pick-both (Waits k n tick) (is_signaled k.threads (object_at k.objects o) c) _
+    (wait_unless k c (o ∷ []) false n tick (Some WaitSynchronization1))
+    (same_effect k _ (record { threads = refl; relief = refl }) true true n tick)
+    (unless-effect k c (o ∷ []) false n tick (Some WaitSynchronization1))
 
 pub wait1_effect : (k : Kernel) (r : Registers) (tick : ℕ) → Effect k [] true true (pair r.r2 r.r3) tick (wait_synchronization1 k r tick).kernel
 unfolding wait_synchronization1
@@ -79,11 +84,13 @@ wait1_effect k r tick =
     (effect-store k x.store [] true true n tick _ (wait1-as k.current_thread (with_objects k x.store) x.object.0 n tick))
 
 -- ---- 0x25
-take-effect : (i : Option ℕ) (k : Kernel) (c : ℕ) (os : List ℕ) (all : Bool) (n tick : ℕ) → Waits k n tick (take_at i k c os all n tick)
+take-effect : (i : Option ℕ) (k : Kernel) (c : ℕ) (os : List ℕ) (all : Bool) (n tick : ℕ)
+    → Waits k n tick (take_at i k c os all n tick)
 take-effect None k c os all n tick = unless-effect k c os all n tick (Some WaitSynchronizationN)
 take-effect (Some i) k c os all n tick = same_effect k _ (record { threads = refl; relief = refl }) true true n tick
 
-wait_n_as : (t : Option ℕ) (k : Kernel) (os : List ℕ) (all : Bool) (n tick : ℕ) → Waits k n tick (wait_nas t k os all n tick)
+wait_n_as : (t : Option ℕ) (k : Kernel) (os : List ℕ) (all : Bool) (n tick : ℕ)
+    → Waits k n tick (wait_nas t k os all n tick)
 wait_n_as None k os all n tick = left k n tick
 wait_n_as (Some c) k os all n tick = take-effect (satisfied_at k.threads k.objects c all os) k c os all n tick
 

@@ -18,7 +18,8 @@ pub data Ends (k : Kernel) (tick w : ℕ) (at : Ticks) : Type 0 where
   runs-out : is_runnable (thread_at (schedule k tick).kernel.threads w).status ≡ true → is_given (fate_at k tick w) ≡ false → at.0 ≤ tick → Ends k tick w at
   gets : is_runnable (thread_at (schedule k tick).kernel.threads w).status ≡ true → is_given (fate_at k tick w) ≡ true → Ends k tick w at
 
-module _ (k : Kernel) (tick w : ℕ) (l : w < 32) (b : Blocked k.threads w) (at : Ticks) (e : (thread_at k.threads w).wakeup_at ≡ Some at) where
+module _ (k : Kernel) (tick w : ℕ) (l : w < 32) (b : Blocked k.threads w) (at : Ticks)
+    (e : (thread_at k.threads w).wakeup_at ≡ Some at) where
   abbrev stays : Bool
   stays = stays? (fate_at k tick w)
 

@@ -45,12 +45,22 @@ map_at g e l (suc i) = ap (λ (d : Slot). get_or (map g l) i d) (sym e) ∙ get_
 module _ (tick : ℕ) where
   fired-at : (r : ℕ) (p : Bool) (t : ti.Timer) (at : Option Ticks) → t.fire_at ≡ at
       → clock_in (fired_at (record { object = Timer t; refcount = r; pulsed = p }) t at tick) ≡ record { kind = kind_number (Timer t); due = fired_due t.interval.0 tick at; interval = t.interval.0 }
-  fired-at r p t None e = ap (λ (d : Option Ticks). record { kind = kind_number (Timer t); due = d; interval = t.interval.0 }) e
+  fired-at r p t None e = ap (λ (d : Option Ticks). record {
+    kind = kind_number
+        (Timer t);
+    due = d;
+    interval = t.interval.0;
+  }) e
   fired-at r p t (Some at) e = go (leb at.0 tick)
     where
       go : (b : Bool)
           → clock_in (pick b (record { object = Timer (fired_timer t at.0 tick); refcount = r; pulsed = p or is_pulse t.reset_type }) (record { object = Timer t; refcount = r; pulsed = p }))
-          ≡ record { kind = kind_number (Timer t); due = pick b (fired_timer t at.0 tick).fire_at (Some at); interval = t.interval.0 }
+          ≡ record {
+            kind = kind_number (Timer t);
+            due = pick b (fired_timer t at.0 tick).fire_at
+                (Some at);
+            interval = t.interval.0;
+          }
       go true = refl
       go false = ap (λ (d : Option Ticks). record { kind = kind_number (Timer t); due = d; interval = t.interval.0 }) e
 
@@ -108,7 +118,8 @@ unfired B tick (Some at) e = pick_no (leb at.0 tick) _ (Some at) e
 unfired-clock : (tick : ℕ) (x : KObject) → due_by (due_of x) tick ≡ false → clock_of x ≡ fired_clock tick (clock_of x)
 unfired-clock tick x e =
     let c : Clock = clock_of x in
-    ap (λ (d : Option Ticks). record { kind = c.kind; due = d; interval = c.interval }) (sym (unfired c.interval tick c.due e))
+    ap (λ (d : Option Ticks). record { kind = c.kind; due = d; interval = c.interval })
+    (sym (unfired c.interval tick c.due e))
 
 catch_as : (b : Bool) (s : ObjectStore) (ts : List th.Thread) (tick o : ℕ) → timer_due tick s.slots ≡ b
     → clock_at (pick b (with_slots (fire_timers s tick) (lost_slots ts 1 (fire_timers s tick).slots)) s) o ≡ fired_clock tick (clock_at s o)

@@ -64,7 +64,8 @@ module _ (x B : ℕ) (pos : 0 < B) (P : ℕ → Type 0) (mono : (k j : ℕ) → 
           least = λ j r. let c : k + q < j = lt_of_mul-lt-mul_right B (omega (arith, r.0)) in omega arith;
         },
         pick_yes (ltb 0 B) _ None (lt-ltb 0 B pos)
-            ∙ ap (λ (n : ℕ). Some (record { 0 = n })) (saturated (x + k * B) (B * (q + 1)) ∙ ap (λ (n : ℕ). least n max_tick) e),
+            ∙ ap (λ (n : ℕ). Some (record { 0 = n }))
+            (saturated (x + k * B) (B * (q + 1)) ∙ ap (λ (n : ℕ). least n max_tick) e),
       )
 
   -- past 64 bits it stays at the last tick

@@ -117,7 +117,8 @@ module _ (x : Waits) (w : ℕ) where
   all-is [] = refl
   all-is (o ∷ os) = rw (signaled-is x.threads (object_at x.objects o) w, all-is os)
 
-  first_then : (q : Bool) (i : ℕ) (y : Option ℕ) (rest : Bool) → found? y ≡ rest → found? (pick q (Some i) y) ≡ q or rest
+  first_then : (q : Bool) (i : ℕ) (y : Option ℕ) (rest : Bool) → found? y ≡ rest
+      → found? (pick q (Some i) y) ≡ q or rest
   unfolding ◌or◌
   first_then true i y rest e = refl
   first_then false i y rest e = e
@@ -142,7 +143,8 @@ given-found None true = refl
 given-found None false = refl
 given-found (Some i) late = refl
 
-given-as : (s : ThreadStatus) (t : Thread) (x : Waits) (w : ℕ) (f : Option ℕ) (late : Bool) → found? f ≡ list_satisfied? t x w → is_given (fate_as s f late) ≡ objects_give? s t x w
+given-as : (s : ThreadStatus) (t : Thread) (x : Waits) (w : ℕ) (f : Option ℕ) (late : Bool)
+    → found? f ≡ list_satisfied? t x w → is_given (fate_as s f late) ≡ objects_give? s t x w
 given-as Dead t x w f late e = refl
 given-as Running t x w f late e = refl
 given-as Ready t x w f late e = refl
@@ -165,9 +167,11 @@ module _ (k : Kernel) (tick w : ℕ) where
       ap (λ (t : Thread). fate_as t.status (satisfied_at (turn k tick w).threads (turn k tick w).objects w t.wait_all (waited_objects t)) (due_by t.wakeup_at tick)) (turn-own k tick w)
 
   -- late: the wait ends
-  pub late-not-stays : Blocked k.threads w → (at : Ticks) → (thread_at k.threads w).wakeup_at ≡ Some at → at.0 ≤ tick → stays? (fate_at k tick w) ≡ false
+  pub late-not-stays : Blocked k.threads w → (at : Ticks) → (thread_at k.threads w).wakeup_at ≡ Some at → at.0 ≤ tick
+      → stays? (fate_at k tick w) ≡ false
   late-not-stays b at e l =
-      let d : due_by (thread_at k.threads w).wakeup_at tick ≡ true = ap (λ (o : Option Ticks). due_by o tick) e ∙ le-leb at.0 tick l in
+      let d : due_by (thread_at k.threads w).wakeup_at tick ≡ true = ap (λ (o : Option Ticks). due_by o tick) e
+      ∙ le-leb at.0 tick l in
       ap stays? (fate-is ∙ ap (λ (q : Bool). fate_as (thread_at k.threads w).status found_at q) d) ∙ late-ends found_at (thread_at k.threads w).status b
 
   -- an end by time is late
@@ -178,13 +182,16 @@ module _ (k : Kernel) (tick w : ℕ) where
       go true h = refl
       go false h = sym (early-time found_at (thread_at k.threads w).status) ∙ h
 
-  pub time-from : by_time? (fate_at k tick w) ≡ true → (at : Ticks) → (thread_at k.threads w).wakeup_at ≡ Some at → at.0 ≤ tick
+  pub time-from : by_time? (fate_at k tick w) ≡ true → (at : Ticks) → (thread_at k.threads w).wakeup_at ≡ Some at
+      → at.0 ≤ tick
   time-from e at q = leb-true at.0 tick (ap (λ (o : Option Ticks). due_by o tick) (sym q) ∙ time-late e)
 
   -- early: it stays, or is given something
-  pub early-not-time : (at : Ticks) → (thread_at k.threads w).wakeup_at ≡ Some at → tick < at.0 → by_time? (fate_at k tick w) ≡ false
+  pub early-not-time : (at : Ticks) → (thread_at k.threads w).wakeup_at ≡ Some at → tick < at.0
+      → by_time? (fate_at k tick w) ≡ false
   early-not-time at e l =
-      let d : due_by (thread_at k.threads w).wakeup_at tick ≡ false = ap (λ (o : Option Ticks). due_by o tick) e ∙ lt-leb at.0 tick l in
+      let d : due_by (thread_at k.threads w).wakeup_at tick ≡ false = ap (λ (o : Option Ticks). due_by o tick) e
+      ∙ lt-leb at.0 tick l in
       ap by_time? (fate-is ∙ ap (λ (q : Bool). fate_as (thread_at k.threads w).status found_at q) d) ∙ early-time found_at (thread_at k.threads w).status
 
   -- a pass gives a thread something exactly if its objects are satisfied at its turn, in the words of the demand

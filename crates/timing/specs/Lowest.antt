@@ -72,7 +72,8 @@ least_priority-ge b (t ∷ ts) p h l = least_priority-ge (better b t) ts p (bett
 
 -- ---- the first of a test that only w meets
 module _ (f : ℕ → Bool) (w : ℕ) (holds : f w ≡ true) (only : (i : ℕ) → f i ≡ true → i ≡ w) where
-  first_if : (n i : ℕ) → i ≤ w → w < i + suc n → (suc i ≤ w → first_from f n (suc i) ≡ Some w) → (q : Bool) → f i ≡ q → pick q (Some i) (first_from f n (suc i)) ≡ Some w
+  first_if : (n i : ℕ) → i ≤ w → w < i + suc n → (suc i ≤ w → first_from f n (suc i) ≡ Some w) → (q : Bool) → f i ≡ q
+      → pick q (Some i) (first_from f n (suc i)) ≡ Some w
   first_if n i a b next true e = ap Some (only i e)
   first_if n i a b next false e = elim (ind-cases i w) [ inl h ↦ false-true (sym e ∙ ap f h.0 ∙ holds) | inr h ↦ next (omega (arith, h.0)) ]
 
@@ -121,7 +122,8 @@ module _ (ts : List Thread) (w : ℕ) (place : w < 32) (small : (thread_at ts w)
 
   pub lowest-picked : (c : Option ℕ) → pick_next ts c ≡ Some w
   unfolding pick_next
-  lowest-picked c = pick_no (leb 64 (best ts)) None _ (lt-leb 64 (best ts) (omega (arith, best-is))) ∙ go (keeps_core ts c (best ts)) refl
+  lowest-picked c = pick_no (leb 64 (best ts)) None _ (lt-leb 64 (best ts) (omega (arith, best-is)))
+      ∙ go (keeps_core ts c (best ts)) refl
     where
       go : (q : Bool) → keeps_core ts c (best ts) ≡ q → pick q c (cyclic ts (best ts) (start_after c)) ≡ Some w
       go true e = keeps-one c e

@@ -46,20 +46,24 @@ unfolding set_priority
 priority-wait k t p w = thread-f wait_of k.threads t _ w refl
 
 -- ---- the current thread parks: another one is left
-begin_as : (c : Option ℕ) (k : Kernel) (l : List ObjectId) (n : ℕ) (all : Bool) (timeout : Option Ticks) (tick w : ℕ) → c ≢ Some w
+begin_as : (c : Option ℕ) (k : Kernel) (l : List ObjectId) (n : ℕ) (all : Bool) (timeout : Option Ticks) (tick w : ℕ)
+    → c ≢ Some w
     → thread_at (begin_wait_as c k l n all timeout tick).threads w ≡ thread_at k.threads w
 begin_as None k l n all timeout tick w h = refl
 begin_as (Some c) k l n all timeout tick w h = thread-other k.threads c w _ (λ e. h (ap Some (sym e)))
 
-pub begin-other : (k : Kernel) (l : List ObjectId) (n : ℕ) (all : Bool) (timeout : Option Ticks) (tick w : ℕ) → k.current_thread ≢ Some w
+pub begin-other : (k : Kernel) (l : List ObjectId) (n : ℕ) (all : Bool) (timeout : Option Ticks) (tick w : ℕ)
+    → k.current_thread ≢ Some w
     → thread_at (begin_wait k l n all timeout tick).threads w ≡ thread_at k.threads w
 unfolding begin_wait
 begin-other k l n all timeout tick w h = begin_as k.current_thread k l n all timeout tick w h
 
-sleep-as : (c : Option ℕ) (k : Kernel) (ticks tick w : ℕ) → c ≢ Some w → thread_at (sleep_as c k ticks tick).threads w ≡ thread_at k.threads w
+sleep-as : (c : Option ℕ) (k : Kernel) (ticks tick w : ℕ) → c ≢ Some w
+    → thread_at (sleep_as c k ticks tick).threads w ≡ thread_at k.threads w
 sleep-as None k ticks tick w h = refl
 sleep-as (Some c) k ticks tick w h = thread-other k.threads c w _ (λ e. h (ap Some (sym e)))
 
-pub sleep-other : (k : Kernel) (ticks tick w : ℕ) → k.current_thread ≢ Some w → thread_at (sleep_current k ticks tick).threads w ≡ thread_at k.threads w
+pub sleep-other : (k : Kernel) (ticks tick w : ℕ) → k.current_thread ≢ Some w
+    → thread_at (sleep_current k ticks tick).threads w ≡ thread_at k.threads w
 unfolding sleep_current
 sleep-other k ticks tick w h = sleep-as k.current_thread k ticks tick w h

@@ -20,9 +20,11 @@ module _ (k : Kernel) (c : ℕ) (e : k.current_thread ≡ Some c) (l : c < lengt
       → thread_at (begin_wait k os n all timeout tick).threads c ≡ waiting (thread_at k.threads c) os n all (wake_tick timeout tick)
   unfolding begin_wait
   begin-own os n all timeout tick =
-      ap (λ (o : Option ℕ). thread_at (begin_wait_as o k os n all timeout tick).threads c) e ∙ thread-same k.threads c (waiting (thread_at k.threads c) os n all (wake_tick timeout tick)) l
+      ap (λ (o : Option ℕ). thread_at (begin_wait_as o k os n all timeout tick).threads c) e
+      ∙ thread-same k.threads c (waiting (thread_at k.threads c) os n all (wake_tick timeout tick)) l
 
   pub sleep-own : (ticks tick : ℕ) → thread_at (sleep_current k ticks tick).threads c ≡ sleeping (thread_at k.threads c) (saturating_add tick ticks)
   unfolding sleep_current
   sleep-own ticks tick =
-      ap (λ (o : Option ℕ). thread_at (sleep_as o k ticks tick).threads c) e ∙ thread-same k.threads c (sleeping (thread_at k.threads c) (saturating_add tick ticks)) l
+      ap (λ (o : Option ℕ). thread_at (sleep_as o k ticks tick).threads c) e
+      ∙ thread-same k.threads c (sleeping (thread_at k.threads c) (saturating_add tick ticks)) l

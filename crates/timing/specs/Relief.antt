@@ -18,11 +18,13 @@ pub priority-relief : (k : Kernel) (t p : ℕ) → (set_priority k t p).relief �
 unfolding set_priority
 priority-relief k t p = refl
 
-begin-flag : (c : Option ℕ) (k : Kernel) (os : List ObjectId) (n : ℕ) (all : Bool) (timeout : Option Ticks) (tick : ℕ) → (begin_wait_as c k os n all timeout tick).relief ≡ k.relief
+begin-flag : (c : Option ℕ) (k : Kernel) (os : List ObjectId) (n : ℕ) (all : Bool) (timeout : Option Ticks) (tick : ℕ)
+    → (begin_wait_as c k os n all timeout tick).relief ≡ k.relief
 begin-flag None k os n all timeout tick = refl
 begin-flag (Some c) k os n all timeout tick = refl
 
-pub begin-relief : (k : Kernel) (os : List ObjectId) (n : ℕ) (all : Bool) (timeout : Option Ticks) (tick : ℕ) → (begin_wait k os n all timeout tick).relief ≡ k.relief
+pub begin-relief : (k : Kernel) (os : List ObjectId) (n : ℕ) (all : Bool) (timeout : Option Ticks) (tick : ℕ)
+    → (begin_wait k os n all timeout tick).relief ≡ k.relief
 unfolding begin_wait
 begin-relief k os n all timeout tick = begin-flag k.current_thread k os n all timeout tick
 

@@ -75,12 +75,14 @@ module _ (x y : Thread) (e : at_rest y ≡ at_rest x) where
       ap (λ (s : ThreadStatus). wait_of (with_status y s)) (sym (off_same y.status (rest-runs ∙ n))) ∙ w ∙ ap (λ (s : ThreadStatus). wait_of (with_status x s)) (off_same x.status n)
 
 -- ---- each part of the choice
-pub mark_rest : (ts : List Thread) (c : Option ℕ) (i : ℕ) → at_rest (thread_at (mark_waited ts c) i) ≡ at_rest (thread_at ts i)
+pub mark_rest : (ts : List Thread) (c : Option ℕ) (i : ℕ)
+    → at_rest (thread_at (mark_waited ts c) i) ≡ at_rest (thread_at ts i)
 mark_rest ts None i = refl
 mark_rest ts (Some c) i =
     pick-both (λ (l : List Thread). at_rest (thread_at l i) ≡ at_rest (thread_at ts i)) (is_runnable (thread_at ts c).status) ts _ refl (thread-f at_rest ts c _ i refl)
 
-begin-rest : (ts : List Thread) (c : Option ℕ) (tick i : ℕ) → at_rest (thread_at (begin_run ts c tick) i) ≡ at_rest (thread_at ts i)
+begin-rest : (ts : List Thread) (c : Option ℕ) (tick i : ℕ)
+    → at_rest (thread_at (begin_run ts c tick) i) ≡ at_rest (thread_at ts i)
 begin-rest ts None tick i = refl
 begin-rest ts (Some c) tick i =
     thread-f at_rest ts c (begun (thread_at ts c) tick) i (pick-both (λ (x : Thread). at_rest x ≡ at_rest (thread_at ts c)) (thread_at ts c).waited (with_run (thread_at ts c) false tick) (thread_at ts c) refl refl)
@@ -104,7 +106,8 @@ left-rest t = go (is_running t.status) refl
     go true e = status-rest t Ready (sym (running_off t.status e))
     go false e = refl
 
-leave_rest : (ts : List Thread) (c : Option ℕ) (i : ℕ) → at_rest (thread_at (leave_core ts c) i) ≡ at_rest (thread_at ts i)
+leave_rest : (ts : List Thread) (c : Option ℕ) (i : ℕ)
+    → at_rest (thread_at (leave_core ts c) i) ≡ at_rest (thread_at ts i)
 leave_rest ts None i = refl
 leave_rest ts (Some c) i = thread-f at_rest ts c (leaves (thread_at ts c)) i (left-rest (thread_at ts c))
 
@@ -112,7 +115,8 @@ take_rest : (ts : List Thread) (n i : ℕ) → can_run ts n ≡ true → at_rest
 take_rest ts n i h = thread-f at_rest ts n (with_status (thread_at ts n) Running) i (status-rest (thread_at ts n) Running (sym (runs_off (thread_at ts n).status h)))
 
 -- ---- the switch to a thread that can run
-switch_rest : (k : Kernel) (s : ObjectStore) (ts : List Thread) (relief : Bool) (c next : Option ℕ) → Runs ts next → (i : ℕ)
+switch_rest : (k : Kernel) (s : ObjectStore) (ts : List Thread) (relief : Bool) (c next : Option ℕ) → Runs ts next
+    → (i : ℕ)
     → at_rest (thread_at (switch_as k s ts relief c next).kernel.threads i) ≡ at_rest (thread_at ts i)
 switch_rest k s ts relief None None h i = refl
 switch_rest k s ts relief (Some c) None h i = leave_rest ts (Some c) i

@@ -22,17 +22,21 @@ use Rattle.timing.specs.Pass.{pass-runs}
 use Rattle.timing.specs.Alive.{tried-live}
 
 -- ---- what a switch leaves
-switch_current : (k : Kernel) (s : ObjectStore) (ts : List Thread) (relief : Bool) (c next : Option ℕ) → (switch_as k s ts relief c next).kernel.current_thread ≡ next
+switch_current : (k : Kernel) (s : ObjectStore) (ts : List Thread) (relief : Bool) (c next : Option ℕ)
+    → (switch_as k s ts relief c next).kernel.current_thread ≡ next
 switch_current k s ts relief None None = refl
 switch_current k s ts relief (Some c) None = refl
 switch_current k s ts relief None (Some n) = refl
-switch_current k s ts relief (Some c) (Some n) = pick-both (λ (x : Passed). x.kernel.current_thread ≡ Some n) (eqb c n) _ _ refl refl
+switch_current k s ts relief (Some c) (Some n) = pick-both (λ (x : Passed). x.kernel.current_thread ≡ Some n)
+    (eqb c n) _ _ refl refl
 
-switch_relief : (k : Kernel) (s : ObjectStore) (ts : List Thread) (relief : Bool) (c next : Option ℕ) → (switch_as k s ts relief c next).kernel.relief ≡ relief
+switch_relief : (k : Kernel) (s : ObjectStore) (ts : List Thread) (relief : Bool) (c next : Option ℕ)
+    → (switch_as k s ts relief c next).kernel.relief ≡ relief
 switch_relief k s ts relief None None = refl
 switch_relief k s ts relief (Some c) None = refl
 switch_relief k s ts relief None (Some n) = refl
-switch_relief k s ts relief (Some c) (Some n) = pick-both (λ (x : Passed). x.kernel.relief ≡ relief) (eqb c n) _ _ refl refl
+switch_relief k s ts relief (Some c) (Some n) = pick-both (λ (x : Passed). x.kernel.relief ≡ relief)
+    (eqb c n) _ _ refl refl
 
 -- ---- the thread w is the only most urgent one at a pass
 pub record Urgent (k : Kernel) (tick w : ℕ) : Type 0 where
@@ -42,7 +46,8 @@ pub record Urgent (k : Kernel) (tick w : ℕ) : Type 0 where
 
 -- whether it starves then
 abbrev pub starves_at : Kernel → ℕ → ℕ → Bool
-starves_at k tick w = starving (begin_run (mark_waited (tried k tick).threads k.current_thread) (Some w) tick) (Some w) tick
+starves_at k tick w = starving (begin_run (mark_waited (tried k tick).threads k.current_thread) (Some w) tick)
+    (Some w) tick
 
 -- whether the pass turns relief on, so that another thread stands in
 abbrev pub relieves : Kernel → ℕ → ℕ → Bool
@@ -78,7 +83,8 @@ module _ (k : Kernel) (tick w : ℕ) (u : Urgent k tick w) where
   pub relief-after : (schedule k tick).kernel.relief ≡ flipped (starves_at k tick w) k.relief
   relief-after = ap (λ (x : Passed). x.kernel.relief) pass-is ∙ switch_relief k (tried k tick).objects _ _ k.current_thread _
 
-  current-is : (schedule k tick).kernel.current_thread ≡ chosen (begin_run marked (Some w) tick) (Some w) (starves_at k tick w) k.relief
+  current-is : (schedule k tick).kernel.current_thread ≡ chosen (begin_run marked (Some w) tick) (Some w)
+      (starves_at k tick w) k.relief
   current-is = ap (λ (x : Passed). x.kernel.current_thread) pass-is ∙ switch_current k (tried k tick).objects _ _ k.current_thread _
 
   pub runs_now : relieves k tick w ≡ false → (schedule k tick).kernel.current_thread ≡ Some w
@@ -97,7 +103,8 @@ pub runs_in_two : (k k' : Kernel) (tick tick' w : ℕ) → Urgent k tick w → U
     → ((schedule k tick).kernel.current_thread ≡ Some w) ⊎ ((schedule k' tick').kernel.current_thread ≡ Some w)
 runs_in_two k k' tick tick' w u u' r = go (relieves k tick w) refl
   where
-    go : (q : Bool) → relieves k tick w ≡ q → ((schedule k tick).kernel.current_thread ≡ Some w) ⊎ ((schedule k' tick').kernel.current_thread ≡ Some w)
+    go : (q : Bool) → relieves k tick w ≡ q → ((schedule k tick).kernel.current_thread ≡ Some w)
+        ⊎ ((schedule k' tick').kernel.current_thread ≡ Some w)
     go true e = inr (runs-relieved k' tick' w u' (r ∙ relieved-after k tick w u e))
     go false e = inl (runs_now k tick w u e)
 
