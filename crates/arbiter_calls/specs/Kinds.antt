@@ -17,7 +17,8 @@ signals a value k o = done (signal_address k o a value)
 
 -- over says that a sum of the call does not fit
 abbrev pub parks : ℕ → Option Ticks → ℕ → Bool → Option ℕ → Kernel → ℕ → Served
-parks a time tick over word k o = record { kernel = with_over (park k o a time tick) over; answer = 0; r0 = Some 0; r1 = None; word = word }
+parks a time tick over word k o =
+    record { kernel = with_over (park k o a time tick) over; answer = 0; r0 = Some 0; r1 = None; word = word }
 
 -- the word is not less than the value
 abbrev pub goes_on : Kernel → ℕ → Served

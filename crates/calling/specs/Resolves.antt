@@ -66,7 +66,8 @@ resolve-overflow_if true q c t s h = current-overflow c s
 resolve-overflow_if false true c t s h = process_object-overflow s
 resolve-overflow_if false false c t s h = refl
 
-pub resolve-overflow : (c : Option ℕ) (t : HandleTable) (s : ObjectStore) (h : ℕ) → (resolve c t s h).store.overflow ≡ s.overflow
+pub resolve-overflow : (c : Option ℕ) (t : HandleTable) (s : ObjectStore) (h : ℕ)
+    → (resolve c t s h).store.overflow ≡ s.overflow
 unfolding resolve
 resolve-overflow c t s h = resolve-overflow_if (eqb h 0xFFFF8000) (eqb h 0xFFFF8001) c t s h
 

@@ -38,7 +38,14 @@ module _ (k : Kernel) (p : Parts k) where
     kind = omega arith;
     head = refl;
     content = owner-ok k.current_thread refl;
-    fits = record { kind = omega arith; a = option-flag-fits k.current_thread; b = p.current; c = omega arith; x = z8; y = z8 };
+    fits = record {
+      kind = omega arith;
+      a = option-flag-fits k.current_thread;
+      b = p.current;
+      c = omega arith;
+      x = z8;
+      y = z8;
+    };
   }
   mutex_new false = record { kind = omega arith; head = refl; content = tt; fits = record { kind = omega arith; a = z4; b = z4; c = z4; x = z8; y = z8 } }
 

@@ -117,13 +117,16 @@ pub runs-current : (k : Kernel) → runs? k ≡ true → Runs k.threads k.curren
 unfolding runs?
 runs-current k e = runs_as_lem k k.current_thread e
 
-since_as : (k : Kernel) (p : Parts k) (c : Option ℕ) (tick : ℕ) → k.current_thread ≡ c → tick < 18446744073709551616 → Parts (runs_since c k tick)
+since_as : (k : Kernel) (p : Parts k) (c : Option ℕ) (tick : ℕ) → k.current_thread ≡ c → tick < 18446744073709551616
+    → Parts (runs_since c k tick)
 since_as k p None tick e w = p
 since_as k p (Some c) tick e w = run-parts k p c (current-live k p c e) (thread_at k.threads c).waited tick w
 
-sleep-as : (k : Kernel) (p : Parts k) (d : Option Ticks) (tick : ℕ) → runs? k ≡ true → tick < 18446744073709551616 → Parts (sleep_for d k tick)
+sleep-as : (k : Kernel) (p : Parts k) (d : Option Ticks) (tick : ℕ) → runs? k ≡ true → tick < 18446744073709551616
+    → Parts (sleep_for d k tick)
 sleep-as k p None tick e w = since_as k p k.current_thread tick refl w
-sleep-as k p (Some d) tick e w = sleep_current-parts k p d.0 tick (runs_unlisted k p k.current_thread (runs-current k e))
+sleep-as k p (Some d) tick e w = sleep_current-parts k p d.0 tick
+    (runs_unlisted k p k.current_thread (runs-current k e))
 
 pub sleep_thread-sound : (k : Kernel) (r : Registers) (tick : ℕ) → tick < 18446744073709551616 → Sound k → runs? k ≡ true → Sound (sleep_thread k r tick).kernel
 unfolding sleep_thread
@@ -148,10 +151,12 @@ named_in n ts ResourceLimit c = tt
 
 thread-in : (k : Kernel) (h : ℕ) → Sound k → CurrentOk (resolve_thread k h) k.thread_count
 thread-in k h s =
-    pick-both (λ (o : Option ℕ). CurrentOk o k.thread_count) (eqb h 0xFFFF8000) k.current_thread (thread_named (object_at k.objects (table.object_of k.handles h))) s.threads.current
+    pick-both (λ (o : Option ℕ). CurrentOk o k.thread_count) (eqb h 0xFFFF8000) k.current_thread
+    (thread_named (object_at k.objects (table.object_of k.handles h))) s.threads.current
     (named_in k.thread_count k.threads (object_at k.objects (table.object_of k.handles h)) (s.contents (table.object_of k.handles h)))
 
-priority_as : (o : Option ℕ) (k : Kernel) (p : ℕ) → CurrentOk o k.thread_count → Sound k → Sound (set_priority_as o k p).kernel
+priority_as : (o : Option ℕ) (k : Kernel) (p : ℕ) → CurrentOk o k.thread_count → Sound k
+    → Sound (set_priority_as o k p).kernel
 priority_as None k p l s = s
 priority_as (Some t) k p l s = set_priority-sound k t p l s
 

@@ -27,7 +27,13 @@ use Rattle.calling.specs.Resolves.{resolve-overflow, resolved-parts}
 use Rattle.calling.specs.Call.{RegistersFit, Clear, Accepted, NewOk, create_object-sound, create_object-answers, Keeps, refused, content-parts}
 
 -- ---- `create_timer`
-timer_new : (k : Kernel) (raw : ℕ) → NewOk k (Timer (record { reset_type = reset_from_raw raw; signaled = false; fire_at = None; interval = record { 0 = 0 } }))
+timer_new : (k : Kernel) (raw : ℕ)
+    → NewOk k (Timer (record {
+      reset_type = reset_from_raw raw;
+      signaled = false;
+      fire_at = None;
+      interval = record { 0 = 0 };
+    }))
 timer_new k raw = record { kind = omega arith; head = refl; content = tt; fits = record { kind = omega arith; a = reset_fits (reset_from_raw raw); b = z4; c = z4; x = z8; y = z8 } }
 
 pub create_timer-sound : (k : Kernel) (r : Registers) → Sound k → Clear (create_timer k r).kernel → Sound (create_timer k r).kernel
@@ -36,7 +42,8 @@ create_timer-sound k r s c = create_object-sound k _ (timer_new k r.r1) s c
 
 pub create_timer-answers : (k : Kernel) (r : Registers) → Accepted (create_timer k r).answer
 unfolding create_timer
-create_timer-answers k r = create_object-answers k (Timer (record { reset_type = reset_from_raw r.r1; signaled = false; fire_at = None; interval = record { 0 = 0 } }))
+create_timer-answers k r = create_object-answers k
+    (Timer (record { reset_type = reset_from_raw r.r1; signaled = false; fire_at = None; interval = record { 0 = 0 } }))
 
 -- ---- after timers fired and the handle h was resolved
 pub caught-parts : (k : Kernel) (tick : ℕ) → (caught_up k tick).objects.overflow ≡ false → Parts k → Parts (caught_up k tick)

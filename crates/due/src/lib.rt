@@ -71,7 +71,9 @@ fn caught_slot(waited: bool, s: Slot, tick: Ticks) -> Slot
 // A slot is read before it is written, and a write leaves the slots after it alone, so each is read as it was.
 fn catch_up_slots(b: &mut Block, m: &[u32; 129], tick: Ticks)
     requires b_value { sound? b.old ≡ true }
-    ensures { b.new ≡ enc_block (with_objects (dec_block b.old) (with_slots (dec_block b.old).objects (lost_marked m.now 1 (map (fired_slot tick.0) (dec_block b.old).objects.slots)))) }
+    ensures { b.new ≡ enc_block (with_objects (dec_block b.old)
+        (with_slots (dec_block b.old).objects
+        (lost_marked m.now 1 (map (fired_slot tick.0) (dec_block b.old).objects.slots)))) }
 {
     for i in 0..128 {
         let old = record::slot_at(b, i);

@@ -22,7 +22,8 @@ use units::{Handle, ObjectId};
 fn remove_entry(block: &mut Block, i: usize)
     requires encoded { Encoded block.old }
     requires i_bound { i < 256 }
-    ensures { Holds block.new (with_table (dec_block block.old) (with_entries (dec_block block.old).handles (without (dec_block block.old).handles.entries i))) }
+    ensures { Holds block.new (with_table (dec_block block.old)
+        (with_entries (dec_block block.old).handles (without (dec_block block.old).handles.entries i))) }
 {
     for j in i..255 {
         let e = record::entry_at(block, j + 1);
@@ -54,7 +55,9 @@ fn take_out(block: &mut Block, i: usize)
 // so it is found by its place and not by resolve, as the Rust's `close` removes it from its map.
 fn put_closed(block: &mut Block, h: Handle)
     requires block_value { sound? block.old ≡ true }
-    ensures { Holds block.new (with_handles (dec_block block.old) (close (dec_block block.old).handles (dec_block block.old).objects h.0).table (close (dec_block block.old).handles (dec_block block.old).objects h.0).store) }
+    ensures { Holds block.new (with_handles (dec_block block.old)
+        (close (dec_block block.old).handles (dec_block block.old).objects h.0).table
+        (close (dec_block block.old).handles (dec_block block.old).objects h.0).store) }
 {
     let Some(i) = read::place_of(block, h) else {
         return;

@@ -26,7 +26,8 @@ fn put_duplicate(block: &mut Block, o: ObjectId)
     requires block_value { sound? block.old ≡ true }
     requires block_bound { (dec_block block.old).handles.count < 256 }
     requires block_bound_2 { (dec_block block.old).handles.next.0 < 0xFFFF8000 }
-    ensures { Holds block.new (with_handles (dec_block block.old) (give (dec_block block.old).handles o.0) (add_ref (dec_block block.old).objects o.0)) }
+    ensures { Holds block.new (with_handles (dec_block block.old) (give (dec_block block.old).handles o.0)
+        (add_ref (dec_block block.old).objects o.0)) }
 {
     let head = block::get_head(block);
     let old = read::slot_at(block, o);
@@ -44,7 +45,8 @@ fn put_duplicate(block: &mut Block, o: ObjectId)
 // stays as it is.
 fn without_room(block: &Block, r: Registers, refusal: Refusal) -> Result<Outcome, Refusal>
     requires block_value { sound? block.now ≡ true }
-    requires refusal_value { refusal_number refusal ≡ found_of (leb 256 (dec_block block.now).handles.count) (leb 0xFFFF8000 (dec_block block.now).handles.next.0) }
+    requires refusal_value { refusal_number refusal ≡ found_of (leb 256 (dec_block block.now).handles.count)
+        (leb 0xFFFF8000 (dec_block block.now).handles.next.0) }
     ensures value { result ≡ outcome (def.duplicate_handle (dec_block block.now) r) }
     ensures block_value_2 { block.now ≡ left (def.duplicate_handle (dec_block block.now) r) block.now }
 {

@@ -21,7 +21,9 @@ fn put_created(block: &mut Block, v: KObject)
     requires block_value { sound? block.old ≡ true }
     requires block_bound { (dec_block block.old).handles.count < 256 }
     requires block_bound_2 { (dec_block block.old).handles.next.0 < 0xFFFF8000 }
-    ensures { Holds block.new (with_handles (dec_block block.old) (give (dec_block block.old).handles (dec_block block.old).objects.free) (insert (dec_block block.old).objects v)) }
+    ensures { Holds block.new (with_handles (dec_block block.old)
+        (give (dec_block block.old).handles (dec_block block.old).objects.free)
+        (insert (dec_block block.old).objects v)) }
 {
     let head = block::get_head(block);
     let o = ObjectId(head.c.0);

@@ -23,7 +23,8 @@ use units::{Handle, ObjectId};
 // A new object in the first free slot, and the number of the process's.
 fn put_inserted(block: &mut Block, v: KObject, process: ObjectId)
     requires block_value { sound? block.old ≡ true }
-    ensures { Holds block.new (with_objects (dec_block block.old) (with_process (insert (dec_block block.old).objects v) process)) }
+    ensures { Holds block.new (with_objects (dec_block block.old)
+        (with_process (insert (dec_block block.old).objects v) process)) }
 {
     let head = block::get_head(block);
     let o = ObjectId(head.c.0);
@@ -68,7 +69,8 @@ fn kept_after(t: u32, o: ObjectId) -> ObjectId
 // If it is refused the block stays as it is.
 fn open_thread(block: &mut Block, t: u32) -> Result<ObjectId, Refusal>
     requires block_value { sound? block.old ≡ true }
-    ensures { Opens (dec_block block.old) (of_current (dec_block block.old).objects (Some t)) block.old block.new result }
+    ensures { Opens (dec_block block.old)
+        (of_current (dec_block block.old).objects (Some t)) block.old block.new result }
 {
     let o = read::kept_at(block, t);
     if o.0 != 0 {
@@ -98,7 +100,8 @@ fn open_process(block: &mut Block) -> Result<ObjectId, Refusal>
 
 fn open_current(block: &mut Block, current: Option<u32>) -> Result<ObjectId, Refusal>
     requires block_value { sound? block.old ≡ true }
-    ensures { Opens (dec_block block.old) (of_current (dec_block block.old).objects current) block.old block.new result }
+    ensures { Opens (dec_block block.old)
+        (of_current (dec_block block.old).objects current) block.old block.new result }
 {
     match current {
         None => there(block, ObjectId(0)),

@@ -70,12 +70,15 @@ module _ (kind : ArbitrationType) (k : Kernel) (r : Registers) (word tick : ℕ)
   served-answers false = inl (as_answer (with_objects k (resolved k r.r0).store) (resolved k r.r0).object.0 r.r1 r.r3 word (pair r.r4 r.r5) tick kind)
 
 -- ---- an unknown kind is refused before that
-by_parts : (kind : Option ArbitrationType) (k : Kernel) (r : Registers) (word tick : ℕ) → RegistersFit r → Unlisted k.threads k.current_thread → Parts k
+by_parts : (kind : Option ArbitrationType) (k : Kernel) (r : Registers) (word tick : ℕ) → RegistersFit r
+    → Unlisted k.threads k.current_thread → Parts k
     → Clear (arbitrate_by kind k r word tick).kernel → Parts (arbitrate_by kind k r word tick).kernel
 by_parts None k r word tick f u p c = p
-by_parts (Some kind) k r word tick f u p c = served-parts kind k r word tick (eqb (resolved k r.r0).object.0 0) refl f u p c
+by_parts (Some kind) k r word tick f u p c = served-parts kind k r word tick
+    (eqb (resolved k r.r0).object.0 0) refl f u p c
 
-by_answers : (kind : Option ArbitrationType) (k : Kernel) (r : Registers) (word tick : ℕ) → Accepted (arbitrate_by kind k r word tick).answer
+by_answers : (kind : Option ArbitrationType) (k : Kernel) (r : Registers) (word tick : ℕ)
+    → Accepted (arbitrate_by kind k r word tick).answer
 by_answers None k r word tick = inr (omega arith, omega arith)
 by_answers (Some kind) k r word tick = served-answers kind k r word tick (eqb (resolved k r.r0).object.0 0)
 

@@ -64,11 +64,13 @@ noted-parts k p c live call =
     }) (λ o z. refl)
 
 -- ---- `begin_wait` leaves the current thread current, and the findings alone
-begin-current : (o : Option ℕ) (k : Kernel) (l : List ObjectId) (n : ℕ) (all : Bool) (time : Option Ticks) (tick : ℕ) → (begin_wait_as o k l n all time tick).current_thread ≡ k.current_thread
+begin-current : (o : Option ℕ) (k : Kernel) (l : List ObjectId) (n : ℕ) (all : Bool) (time : Option Ticks) (tick : ℕ)
+    → (begin_wait_as o k l n all time tick).current_thread ≡ k.current_thread
 begin-current None k l n all time tick = refl
 begin-current (Some c) k l n all time tick = refl
 
-begin-full : (o : Option ℕ) (k : Kernel) (l : List ObjectId) (n : ℕ) (all : Bool) (time : Option Ticks) (tick : ℕ) → (begin_wait_as o k l n all time tick).objects.full ≡ k.objects.full
+begin-full : (o : Option ℕ) (k : Kernel) (l : List ObjectId) (n : ℕ) (all : Bool) (time : Option Ticks) (tick : ℕ)
+    → (begin_wait_as o k l n all time tick).objects.full ≡ k.objects.full
 begin-full None k l n all time tick = refl
 begin-full (Some c) k l n all time tick = add_refs-full (take n (ids l)) k.objects
 
@@ -90,7 +92,8 @@ module _ (k : Kernel) (c : ℕ) (os : List ℕ) (all : Bool) (nanos tick : ℕ) 
   unless-sticks =
       pick-both (λ (v : Served). Sticks k.objects v.kernel.objects) (eqb nanos 0) (answers timeout k) (wait_on k c os all nanos tick call) (sticks-same k.objects) on-sticks
 
-  module _ (p : Parts k) (e : k.current_thread ≡ Some c) (u : Unlisted k.threads k.current_thread) (few : length os ≤ wait_list) (known : Known k.objects (names k.handles k.threads) os) where
+  module _ (p : Parts k) (e : k.current_thread ≡ Some c) (u : Unlisted k.threads k.current_thread)
+      (few : length os ≤ wait_list) (known : Known k.objects (names k.handles k.threads) os) where
     on-parts : Parts (wait_on k c os all nanos tick call).kernel
     unfolding begin_wait
     on-parts =

@@ -25,7 +25,8 @@ use Rattle.calling.specs.Resolves.{resolve-overflow, resolved-found, resolved-pa
 use Rattle.svc.specs.Call.{with_objects, resolved}
 use Rattle.svc.specs.Waits.{resolve_all, resolve_store}
 
-pub all-length : (c : Option ℕ) (t : HandleTable) (hs : List ℕ) (s : ObjectStore) → length (resolve_all c t s hs) ≡ length hs
+pub all-length : (c : Option ℕ) (t : HandleTable) (hs : List ℕ) (s : ObjectStore)
+    → length (resolve_all c t s hs) ≡ length hs
 unfolding resolve_all
 all-length c t [] s = refl
 all-length c t (h ∷ hs) s = ap suc (all-length c t hs (resolve c t s h).store)
@@ -35,7 +36,8 @@ store-full_if : (q : Bool) (s r : ObjectStore) → (r.full ≡ false → s.full 
 store-full_if true s r h e = e
 store-full_if false s r h e = h e
 
-pub store-full : (c : Option ℕ) (t : HandleTable) (hs : List ℕ) (s : ObjectStore) → (resolve_store c t s hs).full ≡ false → s.full ≡ false
+pub store-full : (c : Option ℕ) (t : HandleTable) (hs : List ℕ) (s : ObjectStore)
+    → (resolve_store c t s hs).full ≡ false → s.full ≡ false
 unfolding resolve_store
 store-full c t [] s e = e
 store-full c t (h ∷ hs) s e =
@@ -46,7 +48,8 @@ store-overflow_if : (q : Bool) (s r : ObjectStore) (b : Bool) → s.overflow ≡
 store-overflow_if true s r b e f = e
 store-overflow_if false s r b e f = f
 
-pub store-overflow : (c : Option ℕ) (t : HandleTable) (hs : List ℕ) (s : ObjectStore) → (resolve_store c t s hs).overflow ≡ s.overflow
+pub store-overflow : (c : Option ℕ) (t : HandleTable) (hs : List ℕ) (s : ObjectStore)
+    → (resolve_store c t s hs).overflow ≡ s.overflow
 unfolding resolve_store
 store-overflow c t [] s = refl
 store-overflow c t (h ∷ hs) s =

@@ -51,7 +51,8 @@ push-store n ts f s o t a l wt wa e h = record {
 
 -- ---- the thread parks
 module _ (k : Kernel) (p : Parts k) (o a : ℕ) (small : Word a) (time : Option Ticks) (tick : ℕ) where
-  module _ (c : ℕ) (live : Live k.threads c) (none : Unlisted k.threads (Some c)) (e : (push k.objects o c a).full ≡ false) where
+  module _ (c : ℕ) (live : Live k.threads c) (none : Unlisted k.threads (Some c))
+      (e : (push k.objects o c a).full ≡ false) where
     abbrev waiter : Thread
     waiter = parked (thread_at k.threads c) a (wake_tick time tick)
 
@@ -79,7 +80,8 @@ module _ (k : Kernel) (p : Parts k) (o a : ℕ) (small : Word a) (time : Option 
         (names_same k.handles ts c waiter (live_in ts c live) (unlisted_zeros k p c live none) no-list)
         (push-store n ts f k.objects o c a (live-used k p c live) (live-word k p c live) small e (parts-store k p)))
 
-  park-as : (c : Option ℕ) → k.current_thread ≡ c → Unlisted k.threads c → (park_as c k o a time tick).objects.full ≡ false → Parts (park_as c k o a time tick)
+  park-as : (c : Option ℕ) → k.current_thread ≡ c → Unlisted k.threads c
+      → (park_as c k o a time tick).objects.full ≡ false → Parts (park_as c k o a time tick)
   park-as None q u e = p
   park-as (Some c) q u e = parked-parts c (current-live k p c q) u e
 
@@ -87,11 +89,13 @@ module _ (k : Kernel) (p : Parts k) (o a : ℕ) (small : Word a) (time : Option 
   park-parts u e = park-as k.current_thread refl u e
 
 -- the finding sticks
-park-full_as : (c : Option ℕ) (k : Kernel) (o a : ℕ) (time : Option Ticks) (tick : ℕ) → (park_as c k o a time tick).objects.full ≡ false → k.objects.full ≡ false
+park-full_as : (c : Option ℕ) (k : Kernel) (o a : ℕ) (time : Option Ticks) (tick : ℕ)
+    → (park_as c k o a time tick).objects.full ≡ false → k.objects.full ≡ false
 park-full_as None k o a time tick e = e
 park-full_as (Some c) k o a time tick e = push-full k.objects o c a e
 
-pub park-full : (k : Kernel) (o a : ℕ) (time : Option Ticks) (tick : ℕ) → (park k o a time tick).objects.full ≡ false → k.objects.full ≡ false
+pub park-full : (k : Kernel) (o a : ℕ) (time : Option Ticks) (tick : ℕ) → (park k o a time tick).objects.full ≡ false
+    → k.objects.full ≡ false
 park-full k o a time tick e = park-full_as k.current_thread k o a time tick e
 
 -- ---- kinds 1 to 4

@@ -33,7 +33,8 @@ use Rattle.calling.specs.Threads.{runs-current}
 use Rattle.parking.specs.Lists.{all-length, store-overflow, AllFound, all_found}
 use Rattle.parking.specs.Begins.{Sticks, sticks-same, acquire-full, acquires-full, unless-sticks, unless-parts}
 
-unless-answers : (k : Kernel) (c : ℕ) (os : List ℕ) (all : Bool) (nanos tick : ℕ) (call : Option WaitSyscall) → Accepted (wait_unless k c os all nanos tick call).answer
+unless-answers : (k : Kernel) (c : ℕ) (os : List ℕ) (all : Bool) (nanos tick : ℕ) (call : Option WaitSyscall)
+    → Accepted (wait_unless k c os all nanos tick call).answer
 unless-answers k c os all nanos tick call = pick-both (λ (v : Served). Accepted v.answer) (eqb nanos 0) (answers timeout k) (wait_on k c os all nanos tick call) (inr (omega arith, omega arith)) (inl refl)
 
 -- ---- what one object's acquisition leaves
@@ -49,22 +50,28 @@ module _ (k : Kernel) (o nanos tick : ℕ) where
   one-sticks None = sticks-same k.objects
   one-sticks (Some c) =
       pick-both (λ (v : Served). Sticks k.objects v.kernel.objects) (is_signaled k.threads (object_at k.objects o) c) (done (with_objects k (acquire k.objects o c)))
-      (wait_unless k c (o ∷ []) false nanos tick (Some WaitSynchronization1)) (acquire-down k.objects o c) (unless-sticks k c (o ∷ []) false nanos tick (Some WaitSynchronization1))
+      (wait_unless k c (o ∷ []) false nanos tick (Some WaitSynchronization1)) (acquire-down k.objects o c)
+      (unless-sticks k c (o ∷ []) false nanos tick (Some WaitSynchronization1))
 
   one-answers : (c : Option ℕ) → Accepted (wait1_as c k o nanos tick).answer
   one-answers None = inl refl
   one-answers (Some c) =
       pick-both (λ (v : Served). Accepted v.answer) (is_signaled k.threads (object_at k.objects o) c) (done (with_objects k (acquire k.objects o c)))
-      (wait_unless k c (o ∷ []) false nanos tick (Some WaitSynchronization1)) (inl refl) (unless-answers k c (o ∷ []) false nanos tick (Some WaitSynchronization1))
+      (wait_unless k c (o ∷ []) false nanos tick (Some WaitSynchronization1)) (inl refl)
+      (unless-answers k c (o ∷ []) false nanos tick (Some WaitSynchronization1))
 
   module _ (p : Parts k) (u : Unlisted k.threads k.current_thread) (z : 0 < o) (named : 0 < names k.handles k.threads o + kept_names k.objects o) where
     one_if : (c : ℕ) → k.current_thread ≡ Some c → (b : Bool)
-        → (pick b (done (with_objects k (acquire k.objects o c))) (wait_unless k c (o ∷ []) false nanos tick (Some WaitSynchronization1))).kernel.objects.overflow ≡ false
-        → Parts (pick b (done (with_objects k (acquire k.objects o c))) (wait_unless k c (o ∷ []) false nanos tick (Some WaitSynchronization1))).kernel
+        → (pick b (done (with_objects k (acquire k.objects o c)))
+        (wait_unless k c (o ∷ []) false nanos tick (Some WaitSynchronization1))).kernel.objects.overflow ≡ false
+        → Parts (pick b (done (with_objects k (acquire k.objects o c)))
+        (wait_unless k c (o ∷ []) false nanos tick (Some WaitSynchronization1))).kernel
     one_if c q true e = acquire-parts k p o c (current-live k p c q) e
-    one_if c q false e = unless-parts k c (o ∷ []) false nanos tick (Some WaitSynchronization1) p q u (omega arith) (z, (named, tt))
+    one_if c q false e = unless-parts k c (o ∷ []) false nanos tick (Some WaitSynchronization1) p q u (omega arith)
+        (z, (named, tt))
 
-    one-parts : (c : Option ℕ) → k.current_thread ≡ c → (wait1_as c k o nanos tick).kernel.objects.overflow ≡ false → Parts (wait1_as c k o nanos tick).kernel
+    one-parts : (c : Option ℕ) → k.current_thread ≡ c → (wait1_as c k o nanos tick).kernel.objects.overflow ≡ false
+        → Parts (wait1_as c k o nanos tick).kernel
     one-parts None q e = p
     one-parts (Some c) q e = one_if c q (is_signaled k.threads (object_at k.objects o) c) e
 
@@ -133,16 +140,21 @@ module _ (k : Kernel) (os : List ℕ) (all : Bool) (nanos tick : ℕ) where
   many-answers (Some c) = take-answers (satisfied_at k.threads k.objects c all os) c
 
   module _ (p : Parts k) (u : Unlisted k.threads k.current_thread) (few : length os ≤ wait_list) (known : Known k.objects (names k.handles k.threads) os) where
-    taken-parts : (c i : ℕ) → k.current_thread ≡ Some c → (b : Bool) → (pick b (acquires k.objects os c) (acquire k.objects (get_or os i 0) c)).overflow ≡ false
+    taken-parts : (c i : ℕ) → k.current_thread ≡ Some c → (b : Bool)
+        → (pick b (acquires k.objects os c) (acquire k.objects (get_or os i 0) c)).overflow ≡ false
         → Parts (with_objects k (pick b (acquires k.objects os c) (acquire k.objects (get_or os i 0) c)))
     taken-parts c i q true e = acquires-parts k p os c (current-live k p c q) e
     taken-parts c i q false e = acquire-parts k p (get_or os i 0) c (current-live k p c q) e
 
-    take-parts : (found : Option ℕ) (c : ℕ) → k.current_thread ≡ Some c → (take_at found k c os all nanos tick).kernel.objects.overflow ≡ false → Parts (take_at found k c os all nanos tick).kernel
+    take-parts : (found : Option ℕ) (c : ℕ) → k.current_thread ≡ Some c
+        → (take_at found k c os all nanos tick).kernel.objects.overflow ≡ false
+        → Parts (take_at found k c os all nanos tick).kernel
     take-parts None c q e = unless-parts k c os all nanos tick (Some WaitSynchronizationN) p q u few known
     take-parts (Some i) c q e = taken-parts c i q all e
 
-    many-parts : (c : Option ℕ) → k.current_thread ≡ c → (wait_nas c k os all nanos tick).kernel.objects.overflow ≡ false → Parts (wait_nas c k os all nanos tick).kernel
+    many-parts : (c : Option ℕ) → k.current_thread ≡ c
+        → (wait_nas c k os all nanos tick).kernel.objects.overflow ≡ false
+        → Parts (wait_nas c k os all nanos tick).kernel
     many-parts None q e = p
     many-parts (Some c) q e = take-parts (satisfied_at k.threads k.objects c all os) c q e
 

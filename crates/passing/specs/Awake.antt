@@ -27,7 +27,8 @@ abbrev pub during : Kernel → Waits → Kernel
 during k w = with_threads k w.threads w.objects
 
 -- ---- the wait is over
-module _ (k : Kernel) (t : ℕ) (live : Live k.threads t) (r : Option WaitResult) (small : Word (result_index r)) (p : Parts k) where
+module _ (k : Kernel) (t : ℕ) (live : Live k.threads t) (r : Option WaitResult) (small : Word (result_index r))
+    (p : Parts k) where
   abbrev old : Thread
   old = thread_at k.threads t
 
@@ -62,5 +63,6 @@ module _ (k : Kernel) (t : ℕ) (live : Live k.threads t) (r : Option WaitResult
       subst (λ (l : List Thread). Parts (with_threads k l s)) (set-set k.threads t (clear_wait old) woken)
       (thread-parts (with_threads k (set k.threads t (clear_wait old)) s) ended t still woken turned (λ o z. ap (λ (x : Thread). count o (ids x.wait_objects)) (sym stands)))
 
-pub awake-parts : (k : Kernel) (w : Waits) (t : ℕ) (r : Option WaitResult) → Live w.threads t → Word (result_index r) → Parts (during k w) → Parts (during k (awake w t r))
+pub awake-parts : (k : Kernel) (w : Waits) (t : ℕ) (r : Option WaitResult) → Live w.threads t → Word (result_index r)
+    → Parts (during k w) → Parts (during k (awake w t r))
 awake-parts k w t r live small p = woken-parts (during k w) t live r small p

@@ -71,7 +71,8 @@ add_refs-overflow [] s = refl
 add_refs-overflow (o ∷ os) s = add_refs-overflow os (add_ref s o) ∙ add_ref-overflow s o
 
 -- ---- `begin_wait`
-module _ (k : Kernel) (p : Parts k) (l : List ObjectId) (n : ℕ) (q : Waitable k l n) (all : Bool) (timeout : Option Ticks) (tick : ℕ) where
+module _ (k : Kernel) (p : Parts k) (l : List ObjectId) (n : ℕ) (q : Waitable k l n) (all : Bool)
+    (timeout : Option Ticks) (tick : ℕ) where
   few : n ≤ wait_list
   few = omega (arith, places_in n (ids l) q.places, length-map l (λ (o : ObjectId). o.0), q.size)
 
@@ -106,13 +107,16 @@ module _ (k : Kernel) (p : Parts k) (l : List ObjectId) (n : ℕ) (q : Waitable 
           overflow = add_refs-overflow os k.objects ∙ p.clean.3;
         }
 
-  begin_as : (c : Option ℕ) → k.current_thread ≡ c → Unlisted k.threads c → Parts (begin_wait_as c k l n all timeout tick)
+  begin_as : (c : Option ℕ) → k.current_thread ≡ c → Unlisted k.threads c
+      → Parts (begin_wait_as c k l n all timeout tick)
   begin_as None e u = p
-  begin_as (Some c) e u = let live = current-live k p c e in place-parts k p c live (waiter c live u) (turned c live u) (add_refs k.objects (take n (ids l))) (store c live u)
+  begin_as (Some c) e u = let live = current-live k p c e in place-parts k p c live (waiter c live u) (turned c live u)
+      (add_refs k.objects (take n (ids l))) (store c live u)
 
   pub begin_wait-parts : Unlisted k.threads k.current_thread → Parts (begin_wait k l n all timeout tick)
   unfolding begin_wait
   begin_wait-parts u = begin_as k.current_thread refl u
 
-pub begin_wait-sound : (k : Kernel) (l : List ObjectId) (n : ℕ) (all : Bool) (timeout : Option Ticks) (tick : ℕ) → Waitable k l n → Unlisted k.threads k.current_thread → Sound k → Sound (begin_wait k l n all timeout tick)
+pub begin_wait-sound : (k : Kernel) (l : List ObjectId) (n : ℕ) (all : Bool) (timeout : Option Ticks) (tick : ℕ)
+    → Waitable k l n → Unlisted k.threads k.current_thread → Sound k → Sound (begin_wait k l n all timeout tick)
 begin_wait-sound k l n all timeout tick q u s = parts-sound (begin_wait k l n all timeout tick) (begin_wait-parts k (sound-parts k s) l n q all timeout tick u)

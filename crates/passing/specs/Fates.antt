@@ -29,7 +29,8 @@ first_in : (ts : List Thread) (s : ObjectStore) (w n : ℕ) (os : List ℕ) (i :
 unfolding first_signaled
 first_in ts s w n [] i h = tt
 first_in ts s w n (o ∷ os) i h =
-    pick-both (IndexOk n) (is_signaled ts (object_at s o) w) (Some i) (first_signaled ts s w (i + 1) os) (omega arith) (first_in ts s w n os (i + 1) (omega arith))
+    pick-both (IndexOk n) (is_signaled ts (object_at s o) w) (Some i) (first_signaled ts s w (i + 1) os) (omega arith)
+    (first_in ts s w n os (i + 1) (omega arith))
 
 pub satisfied-in : (ts : List Thread) (s : ObjectStore) (w : ℕ) (all : Bool) (os : List ℕ) → IndexOk (length os) (satisfied_at ts s w all os)
 satisfied-in ts s w true os = pick-both (IndexOk (length os)) (all_signaled ts s w os) (Some 0) None (omega arith) tt
@@ -48,11 +49,13 @@ FateOk ts t TimedOut = Live ts t
 FateOk ts t Slept = Live ts t
 
 module _ (ts : List Thread) (t : ℕ) where
-  given-ok : (n : ℕ) → Word n → (found : Option ℕ) → IndexOk n found → Live ts t → (late : Bool) → FateOk ts t (fate_of found late)
+  given-ok : (n : ℕ) → Word n → (found : Option ℕ) → IndexOk n found → Live ts t → (late : Bool)
+      → FateOk ts t (fate_of found late)
   given-ok n w (Some i) h l late = (l, omega arith)
   given-ok n w None h l late = pick-both (FateOk ts t) late TimedOut Stays l tt
 
-  fate-as : (n : ℕ) → Word n → (x : ThreadStatus) (found : Option ℕ) → IndexOk n found → (late : Bool) → is_dead (thread_at ts t).status ≡ is_dead x → FateOk ts t (fate_as x found late)
+  fate-as : (n : ℕ) → Word n → (x : ThreadStatus) (found : Option ℕ) → IndexOk n found → (late : Bool)
+      → is_dead (thread_at ts t).status ≡ is_dead x → FateOk ts t (fate_as x found late)
   fate-as n w Dead found h late e = tt
   fate-as n w Running found h late e = tt
   fate-as n w Ready found h late e = tt

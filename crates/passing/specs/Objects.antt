@@ -27,7 +27,11 @@ module _ (n : ℕ) (ts : List th.Thread) where
   -- with a time that fits its field
   pub timer_like : (t : ti.Timer) (b : Bool) (at : Option Ticks) → (KeepsFit (Timer t) → tick_value at < 256 ^ 8)
       → Like n ts (Timer t) (Timer (record { reset_type = t.reset_type; signaled = b; fire_at = at; interval = t.interval }))
-  timer_like t b at h = record { shape = refl; content = λ c. c; fits = λ f. record { kind = f.kind; a = f.a; b = flag-fits b; c = option-flag-fits at; x = h f; y = f.y } }
+  timer_like t b at h = record {
+    shape = refl;
+    content = λ c. c;
+    fits = λ f. record { kind = f.kind; a = f.a; b = flag-fits b; c = option-flag-fits at; x = h f; y = f.y };
+  }
 
   pub quiet-like : (x : KObject) → Like n ts x (quieted x)
   quiet-like (Free m) = like-same n ts (Free m)

@@ -69,7 +69,8 @@ module _ (ts : List Thread) where
   -- ---- `pick_other`
   urgent-runs : (b : Option ℕ) (i : ℕ) → can_run ts i ≡ true → Runs ts b → Runs ts (more_urgent ts b i)
   urgent-runs None i e h = e
-  urgent-runs (Some b) i e h = pick-both (Runs ts) (ltb (thread_at ts i).priority (thread_at ts b).priority) (Some i) (Some b) e h
+  urgent-runs (Some b) i e h = pick-both (Runs ts) (ltb (thread_at ts i).priority (thread_at ts b).priority) (Some i)
+      (Some b) e h
 
   other-runs : (c p : ℕ) (b : Option ℕ) (n i : ℕ) → Runs ts b → Runs ts (other_from ts c p b n i)
   unfolding other_from
@@ -88,7 +89,8 @@ module _ (ts : List Thread) where
     where
       stand : (first : Option ℕ) → Runs ts first → Runs ts (stand_in ts first)
       stand None h = tt
-      stand (Some c) h = meets_else (can_run ts) (pick_other ts c (thread_at ts c).priority) (Some c) (pick_other-runs c (thread_at ts c).priority) h
+      stand (Some c) h = meets_else (can_run ts) (pick_other ts c (thread_at ts c).priority) (Some c)
+          (pick_other-runs c (thread_at ts c).priority) h
 
 -- ---- what f reads of a thread is left everywhere, if the change leaves it
 pub thread-f : {A : Type 0} (f : Thread → A) (ts : List Thread) (i : ℕ) (v : Thread) (j : ℕ) → f v ≡ f (thread_at ts i) → f (thread_at (set ts i v) j) ≡ f (thread_at ts j)
@@ -99,5 +101,6 @@ thread-f f (t ∷ ts) (suc i) v zero e = refl
 thread-f f (t ∷ ts) (suc i) v (suc j) e = thread-f f ts i v j e
 
 -- who could run still can, in a table that says so of the same threads
-pub runs_same : (ts ts' : List Thread) → ((i : ℕ) → can_run ts' i ≡ can_run ts i) → (o : Option ℕ) → Runs ts o → Runs ts' o
+pub runs_same : (ts ts' : List Thread) → ((i : ℕ) → can_run ts' i ≡ can_run ts i) → (o : Option ℕ) → Runs ts o
+    → Runs ts' o
 runs_same ts ts' e o h = meets_as (can_run ts) (can_run ts') (λ i q. e i ∙ q) o h

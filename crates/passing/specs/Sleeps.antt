@@ -29,7 +29,8 @@ runs_unlisted k p None h = tt
 runs_unlisted k p (Some c) h =
     runs_none (thread_at k.threads c).status (thread_at k.threads c).wait_count h (live-ok k p c (runs-live (thread_at k.threads c).status h)).only
 
-pub unlisted_zeros : (k : Kernel) (p : Parts k) (c : ℕ) → Live k.threads c → Unlisted k.threads (Some c) → Zeros (ids (thread_at k.threads c).wait_objects)
+pub unlisted_zeros : (k : Kernel) (p : Parts k) (c : ℕ) → Live k.threads c → Unlisted k.threads (Some c)
+    → Zeros (ids (thread_at k.threads c).wait_objects)
 unlisted_zeros k p c live e = no-list k.thread_count k.current_thread c (thread_at k.threads c) e (p.threads.each c (live-place k p c live))
 
 -- ---- `sleep_current`

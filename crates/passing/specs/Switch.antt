@@ -58,7 +58,8 @@ module _ (k : Kernel) (p : Parts k) where
       (live-ok k p i (runs-live (thread_at k.threads i).status (running_runs (thread_at k.threads i).status e))).run
 
   -- so nobody runs if it does not
-  pub nobody : ((c : ℕ) → k.current_thread ≡ Some c → is_running (thread_at k.threads c).status ≡ false) → (i : ℕ) → is_running (thread_at k.threads i).status ≡ false
+  pub nobody : ((c : ℕ) → k.current_thread ≡ Some c → is_running (thread_at k.threads c).status ≡ false) → (i : ℕ)
+      → is_running (thread_at k.threads i).status ≡ false
   nobody h i = go (is_running (thread_at k.threads i).status) refl
     where
       go : (b : Bool) → is_running (thread_at k.threads i).status ≡ b → b ≡ false
@@ -75,7 +76,8 @@ module _ (k : Kernel) (p : Parts k) where
   pub mark_parts : Parts (with_threads k (mark_waited k.threads k.current_thread) k.objects)
   mark_parts = mark_as k.current_thread refl
 
-  pub begin-parts : (o : Option ℕ) → Runs k.threads o → (tick : ℕ) → tick < 256 ^ 8 → Parts (with_threads k (begin_run k.threads o tick) k.objects)
+  pub begin-parts : (o : Option ℕ) → Runs k.threads o → (tick : ℕ) → tick < 256 ^ 8
+      → Parts (with_threads k (begin_run k.threads o tick) k.objects)
   begin-parts None h tick f = p
   begin-parts (Some c) h tick f = go (thread_at k.threads c).waited
     where
@@ -146,7 +148,9 @@ left-runs t = go (is_running t.status) refl
 
 pub leave_runs : (ts : List Thread) (c o : Option ℕ) → Runs ts o → Runs (leave_core ts c) o
 leave_runs ts None o h = h
-leave_runs ts (Some c) o h = runs_same ts (set ts c (leaves (thread_at ts c))) (λ i. thread-f (λ (x : Thread). is_runnable x.status) ts c (leaves (thread_at ts c)) i (left-runs (thread_at ts c))) o h
+leave_runs ts (Some c) o h = runs_same ts (set ts c (leaves (thread_at ts c)))
+    (λ i. thread-f (λ (x : Thread). is_runnable x.status) ts c (leaves (thread_at ts c)) i
+    (left-runs (thread_at ts c))) o h
 
 -- how long a thread has run is not asked
 pub begin-runs : (ts : List Thread) (c : Option ℕ) (tick : ℕ) (o : Option ℕ) → Runs ts o → Runs (begin_run ts c tick) o
@@ -157,7 +161,8 @@ begin-runs ts (Some c) tick o h =
     (pick-both (λ (x : Thread). is_runnable x.status ≡ is_runnable (thread_at ts c).status) (thread_at ts c).waited (with_run (thread_at ts c) false tick) (thread_at ts c) refl refl)) o h
 
 -- with nobody Running, whoever can run may be current
-run-free : (s : ThreadStatus) (next : Option ℕ) (i : ℕ) → is_running s ≡ false → (next ≡ Some i → is_runnable s ≡ true) → RunOk s next i
+run-free : (s : ThreadStatus) (next : Option ℕ) (i : ℕ) → is_running s ≡ false → (next ≡ Some i → is_runnable s ≡ true)
+    → RunOk s next i
 run-free Dead next i e h = λ q. false-true (h q)
 run-free Running next i e h = false-true (sym e)
 run-free Ready next i e h = tt
@@ -166,7 +171,8 @@ run-free WaitSync next i e h = tt
 run-free WaitArbiter next i e h = tt
 run-free Dormant next i e h = tt
 
-module _ (k : Kernel) (p : Parts k) (idle : (i : ℕ) → is_running (thread_at k.threads i).status ≡ false) (next : Option ℕ) (runs : Runs k.threads next) (relief : Bool) where
+module _ (k : Kernel) (p : Parts k) (idle : (i : ℕ) → is_running (thread_at k.threads i).status ≡ false)
+    (next : Option ℕ) (runs : Runs k.threads next) (relief : Bool) where
   pub idle_parts : Parts (scheduled k k.objects k.threads next relief)
   idle_parts = current-parts k p next relief (in_use next runs) (λ i l. run-free (thread_at k.threads i).status next i (idle i) (λ e. subst (Runs k.threads) e runs))
     where
@@ -175,7 +181,8 @@ module _ (k : Kernel) (p : Parts k) (idle : (i : ℕ) → is_running (thread_at 
       in_use (Some i) h = live-used k p i (runs-live (thread_at k.threads i).status h)
 
 -- ---- the current thread takes the core
-pub take-parts : (k : Kernel) (p : Parts k) (n : ℕ) → k.current_thread ≡ Some n → can_run k.threads n ≡ true → Parts (with_threads k (take_core k.threads n) k.objects)
+pub take-parts : (k : Kernel) (p : Parts k) (n : ℕ) → k.current_thread ≡ Some n → can_run k.threads n ≡ true
+    → Parts (with_threads k (take_core k.threads n) k.objects)
 take-parts k p n e h = status-parts k p n h Running refl e
 
 -- ---- the switch
@@ -188,7 +195,8 @@ module _ (k : Kernel) (s : ObjectStore) (ts : List Thread) (relief : Bool) (p : 
   idle_none e = nobody here p (λ c q. let z : ◌≡◌ {A = ℕ} 0 1 = cc in absurd (omega arith))
 
   -- the current thread has left
-  idle_left : (c : ℕ) → k.current_thread ≡ Some c → (i : ℕ) → is_running (thread_at (leave_core ts (Some c)) i).status ≡ false
+  idle_left : (c : ℕ) → k.current_thread ≡ Some c → (i : ℕ)
+      → is_running (thread_at (leave_core ts (Some c)) i).status ≡ false
   idle_left c e =
       nobody (with_threads k (leave_core ts (Some c)) s) (leave_parts here p (Some c))
       (λ j q.
@@ -198,30 +206,48 @@ module _ (k : Kernel) (s : ObjectStore) (ts : List Thread) (relief : Bool) (p : 
 
   both : (c n : ℕ) → k.current_thread ≡ Some c → Runs ts (Some n) → (b : Bool) → eqb c n ≡ b
       → Parts (pick {A = Passed} b
-      (record { kernel = scheduled k s (take_core ts n) (Some n) relief; saved = None; restored = None; switched = false })
-      (record { kernel = scheduled k s (take_core (leave_core ts (Some c)) n) (Some n) relief; saved = Some c; restored = Some n; switched = true })).kernel
+      (record {
+        kernel = scheduled k s (take_core ts n)
+            (Some n) relief;
+        saved = None;
+        restored = None;
+        switched = false;
+      })
+      (record {
+        kernel = scheduled k s (take_core (leave_core ts (Some c)) n)
+            (Some n) relief;
+        saved = Some c;
+        restored = Some n;
+        switched = true;
+      })).kernel
   both c n e h true q =
       let x : k.current_thread ≡ Some n = e ∙ ap Some (eqb-true c n q) in
       take-parts (scheduled k s ts (Some n) relief)
       (current-parts here p (Some n) relief (live-used here p n (runs-live (thread_at ts n).status h))
-      (λ i l. subst (λ (o : Option ℕ). RunOk (thread_at ts i).status o i) x ((p.threads.each i (omega (arith, p.threads.many))).used l).run)) n refl h
+      (λ i l. subst (λ (o : Option ℕ). RunOk (thread_at ts i).status o i) x
+      ((p.threads.each i (omega (arith, p.threads.many))).used l).run)) n refl h
   both c n e h false q =
       let l : List Thread = leave_core ts (Some c) in
       let r : Runs l (Some n) = leave_runs ts (Some c) (Some n) h in
-      take-parts (scheduled k s l (Some n) relief) (idle_parts (with_threads k l s) (leave_parts here p (Some c)) (idle_left c e) (Some n) r relief) n refl r
+      take-parts (scheduled k s l (Some n) relief)
+      (idle_parts (with_threads k l s) (leave_parts here p (Some c)) (idle_left c e) (Some n) r relief) n refl r
 
   switch-as : (c next : Option ℕ) → k.current_thread ≡ c → Runs ts next → Parts (switch_as k s ts relief c next).kernel
   switch-as None None e h = idle_parts here p (idle_none e) None tt relief
-  switch-as (Some c) None e h = idle_parts (with_threads k (leave_core ts (Some c)) s) (leave_parts here p (Some c)) (idle_left c e) None tt relief
-  switch-as None (Some n) e h = take-parts (scheduled k s ts (Some n) relief) (idle_parts here p (idle_none e) (Some n) h relief) n refl h
+  switch-as (Some c) None e h = idle_parts (with_threads k (leave_core ts (Some c)) s) (leave_parts here p (Some c))
+      (idle_left c e) None tt relief
+  switch-as None (Some n) e h = take-parts (scheduled k s ts (Some n) relief)
+      (idle_parts here p (idle_none e) (Some n) h relief) n refl h
   switch-as (Some c) (Some n) e h = both c n e h (eqb c n) refl
 
   pub switch_parts : (next : Option ℕ) → Runs ts next → Parts (switch_as k s ts relief k.current_thread next).kernel
   switch_parts next h = switch-as k.current_thread next refl h
 
 -- objects are no part of it
-pub switch_objects : (k : Kernel) (s : ObjectStore) (ts : List Thread) (relief : Bool) (c next : Option ℕ) → (switch_as k s ts relief c next).kernel.objects ≡ s
+pub switch_objects : (k : Kernel) (s : ObjectStore) (ts : List Thread) (relief : Bool) (c next : Option ℕ)
+    → (switch_as k s ts relief c next).kernel.objects ≡ s
 switch_objects k s ts relief None None = refl
 switch_objects k s ts relief (Some c) None = refl
 switch_objects k s ts relief None (Some n) = refl
-switch_objects k s ts relief (Some c) (Some n) = pick-both (λ (x : Passed). x.kernel.objects ≡ s) (eqb c n) _ _ refl refl
+switch_objects k s ts relief (Some c) (Some n) = pick-both (λ (x : Passed). x.kernel.objects ≡ s)
+    (eqb c n) _ _ refl refl

@@ -31,7 +31,8 @@ saturating_fits a b = omega (arith, least-le (a + b) max_tick)
 
 again_fits : (at interval tick : ℕ) → tick_value (due_again at interval tick) < 256 ^ 8
 again_fits at interval tick =
-    pick-both (λ (o : Option Ticks). tick_value o < 256 ^ 8) (ltb 0 interval) _ None (saturating_fits at (saturating_mul interval ((tick - at) / interval + 1))) z8
+    pick-both (λ (o : Option Ticks). tick_value o < 256 ^ 8) (ltb 0 interval) _ None
+    (saturating_fits at (saturating_mul interval ((tick - at) / interval + 1))) z8
 
 module _ (n : ℕ) (ts : List th.Thread) where
   -- ---- `fire_timers`

@@ -65,7 +65,8 @@ fn put_passed(
     switched: bool,
 )
     ensures bank_after { bank.new ≡ def.save_row bank.old saved processor.old }
-    ensures processor_after { processor.new ≡ def.restore_row processor.old restored (def.save_row bank.old saved processor.old) }
+    ensures processor_after { processor.new ≡ def.restore_row processor.old restored
+        (def.save_row bank.old saved processor.old) }
     ensures answer_after { answer.new ≡ bytes 4 (pick switched 1 0) }
 {
     save(bank, saved, processor);
@@ -96,7 +97,8 @@ fn try_waits(block: &mut Block, tick: Ticks) -> Result<(), Refusal>
     requires block_value { sound? block.old ≡ true }
     ensures value { result ≡ unless_found (pick (pass.tried (dec_block block.old) tick.0).objects.overflow 8 0) tt }
     ensures block_unchanged { (result ≡ Err Refusal.Overflow) → block.new ≡ block.old }
-    ensures block_after { (result ≡ Ok tt) → dec_block block.new ≡ during (dec_block block.old) (pass.tried (dec_block block.old) tick.0) }
+    ensures block_after { (result ≡ Ok tt)
+        → dec_block block.new ≡ during (dec_block block.old) (pass.tried (dec_block block.old) tick.0) }
     ensures block_after_2 { (result ≡ Ok tt) → sound? block.new ≡ true }
 {
     let mut before = [0u8; 16384];
@@ -116,7 +118,8 @@ fn work(
     answer: &mut [u8],
     tick: Ticks,
 ) -> Result<(), Refusal>
-    ensures { back (found_in result) (lent block.new bank.new processor.new [] answer.new) ≡ def.schedule tick.0 (lent block.old bank.old processor.old [] answer.old) }
+    ensures { back (found_in result) (lent block.new bank.new processor.new [] answer.new) ≡ def.schedule tick.0
+        (lent block.old bank.old processor.old [] answer.old) }
 {
     let Some(block) = block.as_mut_array::<16384>() else {
         return Err(Refusal::Length);
@@ -155,7 +158,8 @@ pub fn operate(
     answer: &mut [u8],
     tick: Ticks,
 ) -> u32
-    ensures { back result (lent block.new bank.new processor.new [] answer.new) ≡ def.schedule tick.0 (lent block.old bank.old processor.old [] answer.old) }
+    ensures { back result (lent block.new bank.new processor.new [] answer.new) ≡ def.schedule tick.0
+        (lent block.old bank.old processor.old [] answer.old) }
 {
     match work(block, bank, processor, answer, tick) {
         Ok(()) => 0,

@@ -21,9 +21,12 @@ use units::ObjectId;
 pub fn take(block: &mut Block, o: ObjectId, w: u32) -> Result<(), Refusal>
     requires block_value { sound? block.old ≡ true }
     requires live { Live (dec_block block.old).threads w }
-    ensures value { result ≡ unless_found (pick (def.acquire_over (object_at (dec_block block.old).objects o.0)) 8 0) tt }
+    ensures value { result ≡ unless_found
+        (pick (def.acquire_over (object_at (dec_block block.old).objects o.0)) 8 0) tt }
     ensures block_unchanged { (result ≡ Err Refusal.Overflow) → block.new ≡ block.old }
-    ensures block_after { (result ≡ Ok tt) → dec_block block.new ≡ with_threads (dec_block block.old) (dec_block block.old).threads (def.acquire (dec_block block.old).objects o.0 w) }
+    ensures block_after { (result ≡ Ok tt)
+        → dec_block block.new ≡ with_threads (dec_block block.old) (dec_block block.old).threads
+        (def.acquire (dec_block block.old).objects o.0 w) }
     ensures block_after_2 { sound? block.new ≡ true }
 {
     let x = read::slot_at(block, o);
@@ -39,8 +42,11 @@ pub fn take(block: &mut Block, o: ObjectId, w: u32) -> Result<(), Refusal>
 pub fn take_list(block: &mut Block, list: &[ObjectId], w: u32) -> Result<(), Refusal>
     requires block_value { sound? block.old ≡ true }
     requires live { Live (dec_block block.old).threads w }
-    ensures value { result ≡ unless_found (pick (def.acquires (dec_block block.old).objects (ids list.now) w).overflow 8 0) tt }
-    ensures block_after { (result ≡ Ok tt) → dec_block block.new ≡ with_threads (dec_block block.old) (dec_block block.old).threads (def.acquires (dec_block block.old).objects (ids list.now) w) }
+    ensures value { result ≡ unless_found
+        (pick (def.acquires (dec_block block.old).objects (ids list.now) w).overflow 8 0) tt }
+    ensures block_after { (result ≡ Ok tt)
+        → dec_block block.new ≡ with_threads (dec_block block.old) (dec_block block.old).threads
+        (def.acquires (dec_block block.old).objects (ids list.now) w) }
     ensures block_after_2 { sound? block.new ≡ true }
 {
     for o in list {

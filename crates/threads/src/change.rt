@@ -12,7 +12,8 @@ use types::thread::Thread;
 // Thread t as f leaves it. A number that no thread has changes nothing.
 pub fn change<F: FnOnce(Thread) -> Thread>(block: &mut Block, t: u32, f: F)
     requires { F.IsAlwaysCallable f }
-    ensures { (x : Thread) × ((t < 32 → F.post f (thread_at (dec_block block.old).threads t) x) × (block.new ≡ thread_put block.old t x)) }
+    ensures { (x : Thread) × ((t < 32 → F.post f (thread_at (dec_block block.old).threads t) x)
+        × (block.new ≡ thread_put block.old t x)) }
 {
     if t < 32 {
         let x = f(read::thread_at(block, t));

@@ -27,7 +27,9 @@ fn over_if(block: &Block, fires: bool, tick: Ticks) -> bool
 // be used up. full tells whether there is no slot for an object that the call would make.
 pub fn found_before(block: &Block, full: bool, fires: bool, tick: Ticks) -> Result<(), Refusal>
     requires fires_value { fires ≡ timer_due tick.0 (dec_block block.now).objects.slots }
-    ensures { result ≡ unless_found (found_of full ((def.caught_up (dec_block block.now) tick.0).objects.overflow or out_of_handles? (dec_block block.now))) tt }
+    ensures { result ≡ unless_found
+        (found_of full ((def.caught_up (dec_block block.now) tick.0).objects.overflow or out_of_handles?
+        (dec_block block.now))) tt }
 {
     outcome::room(
         full,
@@ -51,9 +53,12 @@ pub fn catch_up_if(block: &mut Block, fires: bool, tick: Ticks)
 // Timers that came due fire, then the handle is opened. If it is refused the block stays as it is.
 pub fn open_caught(block: &mut Block, h: Handle, tick: Ticks) -> Result<ObjectId, Refusal>
     requires block_value { sound? block.old ≡ true }
-    ensures opens { Opens (def.caught_up (dec_block block.old) tick.0) (resolved (def.caught_up (dec_block block.old) tick.0) h.0) block.old block.new result }
+    ensures opens { Opens (def.caught_up (dec_block block.old) tick.0)
+        (resolved (def.caught_up (dec_block block.old) tick.0) h.0) block.old block.new result }
     ensures block_after { sound? block.new ≡ true }
-    ensures block_after_2 { (found_in result ≡ 0) → dec_block block.new ≡ with_objects (def.caught_up (dec_block block.old) tick.0) (resolved (def.caught_up (dec_block block.old) tick.0) h.0).store }
+    ensures block_after_2 { (found_in result ≡ 0)
+        → dec_block block.new ≡ with_objects (def.caught_up (dec_block block.old) tick.0)
+        (resolved (def.caught_up (dec_block block.old) tick.0) h.0).store }
 {
     let fires = due::timer_due(block, tick);
     found_before(block, open::no_room(block, h), fires, tick)?;

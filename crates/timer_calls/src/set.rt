@@ -55,13 +55,19 @@ fn set_to(t: Timer, initial: Nanos, interval: Nanos, tick: Ticks) -> Timer
 
 // The timer x, set by the registers.
 pub fn set_by(x: KObject, r: Registers, tick: Ticks) -> Timer
-    ensures { result ≡ def.set_to (timer_of x) (def.not_below (pair r.r2 r.r3)) (def.not_below (pair r.r1 r.r4)) tick.0 }
+    ensures { result ≡ def.set_to (timer_of x) (def.not_below (pair r.r2 r.r3))
+        (def.not_below (pair r.r1 r.r4)) tick.0 }
 {
     set_to(timer_of(x), delay(r.r2, r.r3), delay(r.r1, r.r4), tick)
 }
 
 fn stopped(t: Timer) -> Timer
-    ensures { result ≡ record { reset_type = t.reset_type; signaled = t.signaled; fire_at = None; interval = t.interval } }
+    ensures { result ≡ record {
+      reset_type = t.reset_type;
+      signaled = t.signaled;
+      fire_at = None;
+      interval = t.interval;
+    } }
 {
     Timer { fire_at: None, ..t }
 }

@@ -72,8 +72,10 @@ fn change_caught<F: Fn(KObject) -> KObject>(
 ) -> Result<Outcome, Refusal>
     requires block_value { sound? block.old ≡ true }
     requires f_calls { F.IsAlwaysCallable f }
-    ensures value { (g : KObject → KObject) → ((x y : KObject) → F.post f x y → y ≡ g x) → result ≡ outcome (change_caught g (dec_block block.old) r tick.0) }
-    ensures block_after { (g : KObject → KObject) → ((x y : KObject) → F.post f x y → y ≡ g x) → block.new ≡ left (change_caught g (dec_block block.old) r tick.0) block.old }
+    ensures value { (g : KObject → KObject) → ((x y : KObject) → F.post f x y → y ≡ g x)
+        → result ≡ outcome (change_caught g (dec_block block.old) r tick.0) }
+    ensures block_after { (g : KObject → KObject) → ((x y : KObject) → F.post f x y → y ≡ g x)
+        → block.new ≡ left (change_caught g (dec_block block.old) r tick.0) block.old }
 {
     let o = caught::open_caught(block, Handle(r.r0), tick)?;
     let x = read::slot_at(block, o);

@@ -68,8 +68,11 @@ fn object_at(l: [ObjectId; WAIT_LIST], i: u32) -> ObjectId
 fn take_given(block: &mut Block, t: Thread, i: u32, w: u32) -> Result<(), Refusal>
     requires block_value { sound? block.old ≡ true }
     requires live { Live (dec_block block.old).threads w }
-    ensures value { result ≡ unless_found (pick (acquires (dec_block block.old).objects (def.taken t i) w).overflow 8 0) tt }
-    ensures block_after { (result ≡ Ok tt) → dec_block block.new ≡ with_threads (dec_block block.old) (dec_block block.old).threads (acquires (dec_block block.old).objects (def.taken t i) w) }
+    ensures value { result ≡ unless_found
+        (pick (acquires (dec_block block.old).objects (def.taken t i) w).overflow 8 0) tt }
+    ensures block_after { (result ≡ Ok tt)
+        → dec_block block.new ≡ with_threads (dec_block block.old) (dec_block block.old).threads
+        (acquires (dec_block block.old).objects (def.taken t i) w) }
     ensures block_after_2 { sound? block.new ≡ true }
 {
     if t.wait_all {
@@ -83,7 +86,9 @@ fn take_for(block: &mut Block, f: Fate, t: Thread, w: u32) -> Result<(), Refusal
     requires block_value { sound? block.old ≡ true }
     requires live { Live (dec_block block.old).threads w }
     ensures value { result ≡ unless_found (pick (took f (dec_block block.old).objects t w).overflow 8 0) tt }
-    ensures block_after { (result ≡ Ok tt) → dec_block block.new ≡ with_threads (dec_block block.old) (dec_block block.old).threads (took f (dec_block block.old).objects t w) }
+    ensures block_after { (result ≡ Ok tt)
+        → dec_block block.new ≡ with_threads (dec_block block.old) (dec_block block.old).threads
+        (took f (dec_block block.old).objects t w) }
     ensures block_after_2 { sound? block.new ≡ true }
 {
     match f {
@@ -97,8 +102,10 @@ fn take_for(block: &mut Block, f: Fate, t: Thread, w: u32) -> Result<(), Refusal
 fn try_wait(block: &mut Block, i: u32, tick: Ticks) -> Result<(), Refusal>
     requires block_value { sound? block.old ≡ true }
     requires i_bound { i < 32 }
-    ensures value { result ≡ unless_found (pick (def.try_wait tick.0 (waits_of (dec_block block.old)) i).objects.overflow 8 0) tt }
-    ensures block_after { (result ≡ Ok tt) → dec_block block.new ≡ during (dec_block block.old) (def.try_wait tick.0 (waits_of (dec_block block.old)) i) }
+    ensures value { result ≡ unless_found
+        (pick (def.try_wait tick.0 (waits_of (dec_block block.old)) i).objects.overflow 8 0) tt }
+    ensures block_after { (result ≡ Ok tt)
+        → dec_block block.new ≡ during (dec_block block.old) (def.try_wait tick.0 (waits_of (dec_block block.old)) i) }
     ensures block_after_2 { (result ≡ Ok tt) → sound? block.new ≡ true }
 {
     let t = read::thread_at(block, i);
@@ -119,7 +126,8 @@ fn try_wait(block: &mut Block, i: u32, tick: Ticks) -> Result<(), Refusal>
 pub fn try_waits(block: &mut Block, tick: Ticks) -> Result<(), Refusal>
     requires block_value { sound? block.old ≡ true }
     ensures value { result ≡ unless_found (pick (pass.tried (dec_block block.old) tick.0).objects.overflow 8 0) tt }
-    ensures block_after { (result ≡ Ok tt) → dec_block block.new ≡ during (dec_block block.old) (pass.tried (dec_block block.old) tick.0) }
+    ensures block_after { (result ≡ Ok tt)
+        → dec_block block.new ≡ during (dec_block block.old) (pass.tried (dec_block block.old) tick.0) }
     ensures block_after_2 { (result ≡ Ok tt) → sound? block.new ≡ true }
 {
     slots::fire(block, tick)?;

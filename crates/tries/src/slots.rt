@@ -19,7 +19,9 @@ use units::{ObjectId, Ticks};
 pub fn fire(block: &mut Block, tick: Ticks) -> Result<(), Refusal>
     requires block_value { sound? block.old ≡ true }
     ensures value { result ≡ unless_found (pick (any_over tick.0 (dec_block block.old).objects.slots) 8 0) tt }
-    ensures block_after { (result ≡ Ok tt) → dec_block block.new ≡ with_threads (dec_block block.old) (dec_block block.old).threads (fire_timers (dec_block block.old).objects tick.0) }
+    ensures block_after { (result ≡ Ok tt)
+        → dec_block block.new ≡ with_threads (dec_block block.old) (dec_block block.old).threads
+        (fire_timers (dec_block block.old).objects tick.0) }
     ensures block_after_2 { (result ≡ Ok tt) → sound? block.new ≡ true }
 {
     for i in 0..128 {
@@ -41,7 +43,8 @@ pub fn fire(block: &mut Block, tick: Ticks) -> Result<(), Refusal>
 // Pulses end.
 pub fn clear_pulses(block: &mut Block)
     requires block_value { sound? block.old ≡ true }
-    ensures block_after { dec_block block.new ≡ with_threads (dec_block block.old) (dec_block block.old).threads (clear_pulses (dec_block block.old).objects) }
+    ensures block_after { dec_block block.new ≡ with_threads (dec_block block.old) (dec_block block.old).threads
+        (clear_pulses (dec_block block.old).objects) }
     ensures block_after_2 { sound? block.new ≡ true }
 {
     for i in 0..128 {

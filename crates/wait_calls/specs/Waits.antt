@@ -30,7 +30,9 @@ all_taken k w i = gives (with_objects k (acquires k.objects (take w.count (ids w
 
 -- a wait for all takes every object, one for any the one at the index
 abbrev pub taken_at : Kernel → WaitFor → ℕ → Served
-taken_at k w i = gives (with_objects k (pick w.all (acquires k.objects (take w.count (ids w.list)) w.thread) (acquire k.objects (get_or (take w.count (ids w.list)) i 0) w.thread))) i
+taken_at k w i = gives (with_objects k
+    (pick w.all (acquires k.objects (take w.count (ids w.list)) w.thread)
+    (acquire k.objects (get_or (take w.count (ids w.list)) i 0) w.thread))) i
 
 abbrev pub take_in : Option ℕ → Kernel → ℕ → List ObjectId → ℕ → Bool → ℕ → ℕ → Served
 take_in None k c l n all nanos tick = wait_unless_in k c l n all nanos tick (Some WaitSynchronizationN)
@@ -39,7 +41,8 @@ take_in (Some i) k c l n all nanos tick =
 
 abbrev pub wait_as_in : Option ℕ → Kernel → List ObjectId → ℕ → Bool → ℕ → ℕ → Served
 wait_as_in None k l n all nanos tick = done k
-wait_as_in (Some c) k l n all nanos tick = take_in (satisfied_at k.threads k.objects c all (take n (ids l))) k c l n all nanos tick
+wait_as_in (Some c) k l n all nanos tick = take_in
+    (satisfied_at k.threads k.objects c all (take n (ids l))) k c l n all nanos tick
 
 -- `wait_synchronization_n` once the timers have fired and the handles are open: k is the state then, with the objects if each names one
 abbrev pub wait_in : Kernel → Option (List ObjectId) → ℕ → Registers → ℕ → Served

@@ -46,7 +46,8 @@ fn with_call(t: Thread, call: Option<WaitSyscall>) -> Thread
 // One holder more for each. An object may be listed twice, so each slot is read after the last write.
 fn hold_list(block: &mut Block, list: &[ObjectId])
     requires block_value { sound? block.old ≡ true }
-    ensures { Holds block.new (with_objects (dec_block block.old) (add_refs (dec_block block.old).objects (ids list.now))) }
+    ensures { Holds block.new (with_objects (dec_block block.old)
+        (add_refs (dec_block block.old).objects (ids list.now))) }
 {
     for o in list {
         let x = read::slot_at(block, *o);
@@ -58,7 +59,8 @@ fn hold_list(block: &mut Block, list: &[ObjectId])
 pub fn begin_wait(block: &mut Block, w: WaitFor, tick: Ticks, call: Option<WaitSyscall>)
     requires block_value { sound? block.old ≡ true }
     requires current_thread_value { (dec_block block.old).current_thread ≡ Some w.thread }
-    ensures { block.new ≡ enc_block (wait_on_in (dec_block block.old) w.thread w.list w.count w.all w.timeout.0 tick.0 call).kernel }
+    ensures { block.new ≡ enc_block
+        (wait_on_in (dec_block block.old) w.thread w.list w.count w.all w.timeout.0 tick.0 call).kernel }
 {
     let t = read::thread_at(block, w.thread);
     let wake = begin::wake_tick(wait_time(w.timeout), tick);

@@ -52,7 +52,8 @@ pub fn open_list(
 ) -> Option<[ObjectId; WAIT_LIST]>
     requires block_value { sound? block.old ≡ true }
     requires block_value_2 { out_of_handles? (dec_block block.old) ≡ false }
-    requires words_value { (resolve_store (dec_block block.old).current_thread (dec_block block.old).handles (dec_block block.old).objects (take n words)).full ≡ false }
+    requires words_value { (resolve_store (dec_block block.old).current_thread (dec_block block.old).handles
+        (dec_block block.old).objects (take n words)).full ≡ false }
     ensures { Opens (dec_block block.old) (take n words) block.new result }
 {
     let mut l = [ObjectId(0); WAIT_LIST];

@@ -40,7 +40,8 @@ fn take_all(block: &mut Block, w: WaitFor, i: u32) -> Result<Outcome, Refusal>
     requires block_value_2 { out_of_handles? (dec_block block.old) ≡ false }
     requires current_thread_value { (dec_block block.old).current_thread ≡ Some w.thread }
     ensures value { result ≡ outcome (all_taken (dec_block block.old) w i) }
-    ensures block_after { (finding (all_taken (dec_block block.old) w i).kernel ≡ 0) → block.new ≡ left (all_taken (dec_block block.old) w i) block.old }
+    ensures block_after { (finding (all_taken (dec_block block.old) w i).kernel ≡ 0)
+        → block.new ≡ left (all_taken (dec_block block.old) w i) block.old }
 {
     taken::take_list(block, list::first(&w.list, w.count), w.thread)?;
     Ok(outcome::gives(i))
@@ -53,7 +54,8 @@ fn take_at(block: &mut Block, w: WaitFor, i: u32) -> Result<Outcome, Refusal>
     requires block_value_2 { out_of_handles? (dec_block block.old) ≡ false }
     requires current_thread_value { (dec_block block.old).current_thread ≡ Some w.thread }
     ensures value { result ≡ outcome (taken_at (dec_block block.old) w i) }
-    ensures block_after { ((w.all ≡ false) ⊎ (finding (taken_at (dec_block block.old) w i).kernel ≡ 0)) → block.new ≡ left (taken_at (dec_block block.old) w i) block.old }
+    ensures block_after { ((w.all ≡ false) ⊎ (finding (taken_at (dec_block block.old) w i).kernel ≡ 0))
+        → block.new ≡ left (taken_at (dec_block block.old) w i) block.old }
 {
     if w.all {
         return take_all(block, w, i);
@@ -72,8 +74,12 @@ fn wait_at(
     requires block_value { sound? block.old ≡ true }
     requires block_value_2 { out_of_handles? (dec_block block.old) ≡ false }
     requires current_thread_value { (dec_block block.old).current_thread ≡ Some w.thread }
-    ensures value { result ≡ outcome (take_in found (dec_block block.old) w.thread w.list w.count w.all w.timeout.0 tick.0) }
-    ensures block_after { ((w.all ≡ false) ⊎ (finding (take_in found (dec_block block.old) w.thread w.list w.count w.all w.timeout.0 tick.0).kernel ≡ 0)) → block.new ≡ left (take_in found (dec_block block.old) w.thread w.list w.count w.all w.timeout.0 tick.0) block.old }
+    ensures value { result ≡ outcome
+        (take_in found (dec_block block.old) w.thread w.list w.count w.all w.timeout.0 tick.0) }
+    ensures block_after { ((w.all ≡ false)
+        ⊎ (finding (take_in found (dec_block block.old) w.thread w.list w.count w.all w.timeout.0 tick.0).kernel ≡ 0))
+        → block.new ≡ left (take_in found
+        (dec_block block.old) w.thread w.list w.count w.all w.timeout.0 tick.0) block.old }
 {
     match found {
         None => {
@@ -99,7 +105,9 @@ fn wait_list(
     requires block_value { sound? block.old ≡ true }
     requires block_value_2 { out_of_handles? (dec_block block.old) ≡ false }
     ensures value { result ≡ outcome (wait_in (dec_block block.old) objects n r tick.0) }
-    ensures block_after { ((not (eqb r.r3 0) ≡ false) ⊎ (finding (wait_in (dec_block block.old) objects n r tick.0).kernel ≡ 0)) → block.new ≡ left (wait_in (dec_block block.old) objects n r tick.0) block.old }
+    ensures block_after { ((not (eqb r.r3 0) ≡ false)
+        ⊎ (finding (wait_in (dec_block block.old) objects n r tick.0).kernel ≡ 0))
+        → block.new ≡ left (wait_in (dec_block block.old) objects n r tick.0) block.old }
 {
     let Some(l) = objects else {
         return Ok(outcome::answers(Answer::UnknownHandle));
@@ -134,7 +142,9 @@ fn wait_caught(
     requires block_value { sound? block.old ≡ true }
     requires ready { Ready (dec_block block.old) words n l known fires tick.0 }
     ensures value { result ≡ outcome (def.wait_synchronization_n (dec_block block.old) r (take n words) tick.0) }
-    ensures block_after { (((not (eqb r.r3 0) ≡ false) × ((fires ≡ false) × (known ≡ true))) ⊎ (finding (def.wait_synchronization_n (dec_block block.old) r (take n words) tick.0).kernel ≡ 0)) → block.new ≡ left (def.wait_synchronization_n (dec_block block.old) r (take n words) tick.0) block.old }
+    ensures block_after { (((not (eqb r.r3 0) ≡ false) × ((fires ≡ false) × (known ≡ true)))
+        ⊎ (finding (def.wait_synchronization_n (dec_block block.old) r (take n words) tick.0).kernel ≡ 0))
+        → block.new ≡ left (def.wait_synchronization_n (dec_block block.old) r (take n words) tick.0) block.old }
 {
     caught::catch_up_if(block, fires, tick);
     let m = places::least_of(n, WAIT_COUNT);
@@ -159,7 +169,8 @@ fn wait_saved(
     requires block_value { sound? block.old ≡ true }
     requires ready { Ready (dec_block block.old) words n l known fires tick.0 }
     ensures value { result ≡ outcome (def.wait_synchronization_n (dec_block block.old) r (take n words) tick.0) }
-    ensures block_after { block.new ≡ left (def.wait_synchronization_n (dec_block block.old) r (take n words) tick.0) block.old }
+    ensures block_after { block.new ≡ left
+        (def.wait_synchronization_n (dec_block block.old) r (take n words) tick.0) block.old }
 {
     let mut saved = [0u8; 16384];
     codec::copy(&mut saved, 0, block);
@@ -172,7 +183,9 @@ fn wait_saved(
 
 // Whether there is no slot for an object that the handles make; known handles make none.
 fn full_if(block: &Block, handles: &[u32], known: bool) -> bool
-    ensures { result ≡ pick known false (lacks_room (dec_block block.now).current_thread (dec_block block.now).handles (dec_block block.now).objects handles.now) }
+    ensures { result ≡ pick known false
+        (lacks_room (dec_block block.now).current_thread (dec_block block.now).handles
+        (dec_block block.now).objects handles.now) }
 {
     !known && room::lacks_room(block, handles)
 }
@@ -189,7 +202,8 @@ pub fn wait_synchronization_n(
 ) -> Result<Outcome, Refusal>
     requires block_value { sound? block.old ≡ true }
     ensures value { result ≡ outcome (def.wait_synchronization_n (dec_block block.old) r (take n words) tick.0) }
-    ensures block_after { block.new ≡ left (def.wait_synchronization_n (dec_block block.old) r (take n words) tick.0) block.old }
+    ensures block_after { block.new ≡ left
+        (def.wait_synchronization_n (dec_block block.old) r (take n words) tick.0) block.old }
 {
     let x = handles::look_up(block, words, n);
     let l = x.objects;

@@ -27,7 +27,8 @@ fn met(block: &Block, handles: &[u32], p: Handle) -> bool
 
 // And its object is yet to be made.
 fn wants(block: &Block, handles: &[u32], p: Handle) -> bool
-    ensures { result ≡ (makes (dec_block block.now) p.0 and def.met (dec_block block.now).current_thread (dec_block block.now).handles p.0 handles.now) }
+    ensures { result ≡ (makes (dec_block block.now) p.0 and def.met (dec_block block.now).current_thread
+        (dec_block block.now).handles p.0 handles.now) }
 {
     open::makes(block, p) && met(block, handles, p)
 }
@@ -45,7 +46,8 @@ fn lacking(none: bool, one: bool, thread: bool, process: bool) -> bool
 
 // Whether the handles make more objects than slots are free.
 pub fn lacks_room(block: &Block, handles: &[u32]) -> bool
-    ensures { result ≡ def.lacks_room (dec_block block.now).current_thread (dec_block block.now).handles (dec_block block.now).objects handles.now }
+    ensures { result ≡ def.lacks_room (dec_block block.now).current_thread (dec_block block.now).handles
+        (dec_block block.now).objects handles.now }
 {
     let thread = wants(block, handles, Handle(0xFFFF8000));
     let process = wants(block, handles, Handle(0xFFFF8001));

@@ -17,7 +17,8 @@ use units::ObjectId;
 
 // Whether a wait of the current thread on the object succeeds and finds its count too large.
 pub fn over_now(block: &Block, o: ObjectId) -> bool
-    ensures { result ≡ over_now (dec_block block.now).current_thread (dec_block block.now).threads (object_at (dec_block block.now).objects o.0) }
+    ensures { result ≡ over_now (dec_block block.now).current_thread (dec_block block.now).threads
+        (object_at (dec_block block.now).objects o.0) }
 {
     let Some(c) = read::current(block) else {
         return false;
@@ -31,8 +32,10 @@ pub fn take(block: &mut Block, o: ObjectId, w: u32) -> Result<(), Refusal>
     requires block_value { sound? block.old ≡ true }
     requires block_value_2 { out_of_handles? (dec_block block.old) ≡ false }
     requires current_thread_value { (dec_block block.old).current_thread ≡ Some w }
-    ensures value { result ≡ unless_found (finding (with_objects (dec_block block.old) (acquire (dec_block block.old).objects o.0 w))) tt }
-    ensures block_after { block.new ≡ left (done (with_objects (dec_block block.old) (acquire (dec_block block.old).objects o.0 w))) block.old }
+    ensures value { result ≡ unless_found
+        (finding (with_objects (dec_block block.old) (acquire (dec_block block.old).objects o.0 w))) tt }
+    ensures block_after { block.new ≡ left
+        (done (with_objects (dec_block block.old) (acquire (dec_block block.old).objects o.0 w))) block.old }
 {
     take::take(block, o, w)
 }
@@ -43,8 +46,11 @@ pub fn take_list(block: &mut Block, list: &[ObjectId], w: u32) -> Result<(), Ref
     requires block_value { sound? block.old ≡ true }
     requires block_value_2 { out_of_handles? (dec_block block.old) ≡ false }
     requires current_thread_value { (dec_block block.old).current_thread ≡ Some w }
-    ensures value { result ≡ unless_found (finding (with_objects (dec_block block.old) (acquires (dec_block block.old).objects (ids list.now) w))) tt }
-    ensures block_after { (result ≡ Ok tt) → block.new ≡ enc_block (with_objects (dec_block block.old) (acquires (dec_block block.old).objects (ids list.now) w)) }
+    ensures value { result ≡ unless_found
+        (finding (with_objects (dec_block block.old) (acquires (dec_block block.old).objects (ids list.now) w))) tt }
+    ensures block_after { (result ≡ Ok tt)
+        → block.new ≡ enc_block (with_objects (dec_block block.old)
+        (acquires (dec_block block.old).objects (ids list.now) w)) }
 {
     take::take_list(block, list, w)
 }
