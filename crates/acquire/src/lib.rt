@@ -23,8 +23,8 @@ fn mutex_free(m: Mutex, w: u32) -> bool
     m.owner.is_none_or(|u| u == w)
 }
 
-// The thread that a thread object names; 32, a place of no thread, for another kind. No option: the thread at the
-// number is looked up whatever the kind is, and `thread_named` of the specs says so.
+// The thread that a thread object names; 32, a place of no thread, for another kind. No option: `is_signaled` takes
+// whether that thread is Dead, and a place of no thread counts as Dead, so none is one number more and no case more.
 pub fn thread_named(x: KObject) -> u32
     ensures { result ≡ thread_named x }
 {
@@ -60,6 +60,7 @@ fn stays_set(r: ResetType, b: bool) -> bool
     }
 }
 
+// `acquired_timer` does the same: a trait over the two, with what it says of each, would be longer than both.
 fn acquired_event(e: Event) -> Event
     ensures { result ≡ record { reset_type = e.reset_type; signaled = def.stays_set e.reset_type e.signaled } }
 {
@@ -79,7 +80,10 @@ fn acquired_timer(t: Timer) -> Timer
 }
 
 fn acquired_mutex(m: Mutex, w: u32) -> Mutex
-    ensures { result ≡ record { owner = Some w; lock_count = pick (ltb m.lock_count 4294967295) (m.lock_count + 1) m.lock_count } }
+    ensures { result ≡ record {
+      owner = Some w;
+      lock_count = pick (ltb m.lock_count 4294967295) (m.lock_count + 1) m.lock_count;
+    } }
 {
     Mutex {
         owner: Some(w),

@@ -1,12 +1,10 @@
--- A signal at an address by the code's cases: one record, one step of the walk. Assumes nothing.
+-- A signal at an address by the code's cases: one step of the walk. Assumes nothing.
 use mathlib.Core.Path.{◌≡◌, refl, ap}
-use mathlib.Core.Bool.{Bool, true, false}
 use mathlib.Core.Logic.{◌≢◌, ◌⊎◌}
 use mathlib.Core.List.{List, [], ◌∷◌}
-use Prim.Native.Nat.{ℕ, suc, ◌+◌, ◌-◌}
-use lib.ListN.{set}
-use borrow.Author.Tests.{eq-eqb, ne_eqb}
-use Rattle.laws.specs.Logic.{◌and◌, ◌or◌}
+use Prim.Native.Nat.{ℕ, suc, ◌-◌}
+use Rattle.std.proofs.lemmas.Grind.{common_steps}
+use Rattle.laws.specs.Logic.{◌and◌, and_yes, and_no, ◌or◌, or_yes, or_no, pick_yes, pick_no}
 use Rattle.laws.specs.Walk.{walk, walk-nil}
 use Rattle.types.specs.declared.thread.Thread as th
 use Rattle.types.specs.declared.object.Waiter.{Waiter}
@@ -20,42 +18,22 @@ use Rattle.object.proofs.Laws.{walk-over, walk_record, slot_put-same, head-same}
 use Rattle.kernel.specs.NextEvent.{contains}
 use Rattle.thread.specs.Threads.{with_threads}
 use Rattle.svc.specs.Arbiter.{to_wake, unlink_woken, wake_all, signal_address, woken_at}
-use Rattle.arbiter.specs.declared.mark.Mark.{Mark}
-use Rattle.arbiter.specs.declared.mark.Mark.TheVariants.{Woken}
-use Rattle.arbiter.specs.Marks.{parked_marks, marked, more, stays_marked, marks_by, count_marked, marks_after, unlink_marked, wake_marked, tells-start, tells-after, unlink-is, wake-is}
-
--- ---- one record
-module _ (ws : List Waiter) (a value : ℕ) (p : List Mark) (n x : ℕ) where
-  abbrev w : Waiter
-  w = waiter_at ws x
-
-  abbrev pub Decided : Bool → ℕ → List Mark → Type 0
-  Decided stays m q = (stays ≡ stays_marked ws a value p n x) × ((m ≡ count_marked ws a value p n x) × (q ≡ marks_by ws a value p n x))
-
-  pub other : w.address ≢ a → Decided true n p
-  unfolding ◌and◌ ◌or◌
-  other e = let f = ne_eqb w.address a e in (rw f, (rw f, rw f))
-
-  pub left_behind : w.address ≡ a → marked p w.thread ≡ false → Decided false n p
-  unfolding ◌and◌ ◌or◌
-  left_behind e g = let f = eq-eqb w.address a e in (rw (f, g), (rw (f, g), rw (f, g)))
-
-  pub enough : w.address ≡ a → marked p w.thread ≡ true → more value n ≡ false → Decided true n p
-  unfolding ◌and◌ ◌or◌
-  enough e g h = let f = eq-eqb w.address a e in (rw (f, g, h), (rw (f, g, h), rw (f, g, h)))
-
-  pub wakes : w.address ≡ a → marked p w.thread ≡ true → more value n ≡ true → Decided false (n + 1) (set p w.thread Woken)
-  unfolding ◌and◌ ◌or◌
-  wakes e g h = let f = eq-eqb w.address a e in (rw (f, g, h), (rw (f, g, h), rw (f, g, h)))
+use Rattle.arbiter.specs.Marks.{parked_marks, stays_marked, marks_by, count_marked, marks_after, unlink_marked}
+use Rattle.arbiter.specs.Marks.{wake_marked, tells-start, tells-after, unlink-is, wake-is}
 
 -- ---- the walk
-module _ (ws : List Waiter) (a value : ℕ) (p : List Mark) (n h left free : ℕ) where
+module _ (ws : List Waiter) (a value : ℕ) (p : List ℕ) (n h left free : ℕ) where
   abbrev xs : List ℕ
   xs = walk (waiter_nexts ws) left h
 
-  pub walked_over : (h ≡ 0) ⊎ ((h ≢ 0) × (left ≡ 0)) → (record { waiters = ws; free = free; head = 0 } ≡ unlink_marked ws a value p n free xs) × (p ≡ marks_after ws a value p n xs)
-  unfolding unlink_marked marks_after
-  walked_over e = let f = walk-over (waiter_nexts ws) left h e in (rw f, rw f)
+  module _ (e : (h ≡ 0) ⊎ ((h ≢ 0) × (left ≡ 0))) where
+    pub walked-links : record { waiters = ws; free = free; head = 0 } ≡ unlink_marked ws a value p n free xs
+    unfolding unlink_marked
+    walked-links = rw (walk-over (waiter_nexts ws) left h e)
+
+    pub walked-marks : p ≡ marks_after ws a value p n xs
+    unfolding marks_after
+    walked-marks = rw (walk-over (waiter_nexts ws) left h e)
 
   module _ (c : left ≢ 0) (d : h ≢ 0) where
     abbrev rest : List ℕ
@@ -98,3 +76,7 @@ signal-none k o a value e =
       head-same (object_at k.objects o) e,
       slot_put-same k.objects.slots o,
     )
+
+pub ruleset decides = (common_steps, and_yes, and_no, or_yes, or_no, pick_yes, pick_no)
+
+pub ruleset walks = (common_steps, walked-links, walked-marks, unlinked, marks)

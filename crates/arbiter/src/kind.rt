@@ -5,7 +5,7 @@ ghost use Rattle.svc.specs.Arbiter as def;
 
 use types::sync::ArbitrationType;
 
-// Kinds 0 to 4, and none above.
+// Kinds 0 to 4, and none above: an Option as in the original, since there is no more to say of an unknown one.
 pub fn from_raw(value: u32) -> Option<ArbitrationType>
     ensures { result ≡ arbitration_from_raw value }
 {

@@ -2,6 +2,5 @@
 #![tactic(auto)]
 
 pub mod kind;
-pub mod mark;
 pub mod park;
 pub mod wake;

@@ -19,7 +19,7 @@ pub fn is_below(x: u32, y: u32) -> bool
 pub fn park_time(timed: bool, nanos: Nanos) -> Option<Ticks>
     ensures { result ≡ park_time_in timed nanos.0 }
 {
-    if timed && !svc::read::negative(nanos) {
+    if timed && !nanos.is_negative() {
         return Some(units::nanos_to_ticks(nanos));
     }
     None

@@ -1,4 +1,5 @@
 -- ArbitrateAddress by its kind. Assumes nothing.
+use Rattle.std.proofs.lemmas.Grind.{common_steps}
 use Rattle.std.specs.Prelude.{Option, Some, None, Ok, Err}
 use Rattle.units.specs.declared.Ticks.{Ticks}
 use mathlib.Core.Path.{◌≡◌, refl, sym, ap, ◌∙◌}
@@ -107,3 +108,5 @@ module _ (b : List ℕ) (n : ℕ) where
   answers-same s u e =
       let f : finding (dec_block b) ≡ 0 = same-finding b ∙ room-none false (out_of_handles? (dec_block b)) tt u e in
       (sym (outcome-0 v f), (holds b s).same ∙ sym (left-0 v b f))
+
+pub ruleset kinds = (common_steps, not-signal, no_kind, some-kind, signal-kind, wait-kind, waits-kind, not-below, below)

@@ -1,4 +1,5 @@
 -- What is found if the current thread parks. Assumes nothing.
+use Rattle.std.proofs.lemmas.Grind.{common_steps}
 use Rattle.std.specs.Prelude.{Option, Some, None, Err}
 use Rattle.units.specs.declared.Ticks.{Ticks}
 use mathlib.Core.Path.{◌≡◌, refl, sym, ap, ◌∙◌}
@@ -10,7 +11,7 @@ use native.Mathlib.Decide.{ℕ_discrete}
 use lib.Dec.{eqb}
 use lib.ListN.{set}
 use borrow.Author.Tests.{eq-eqb, ne_eqb}
-use Rattle.laws.specs.Logic.{pick, ◌and◌, ◌or◌, and-end, and-false, or-end, or-false}
+use Rattle.laws.specs.Logic.{pick, ◌and◌, and_yes, and_no, and-end, and-false, ◌or◌, or_yes, or_no, or-end, or-false}
 use Rattle.codec.specs.Bytes.{le}
 use Rattle.codec.specs.Layout.{dec_as}
 use Rattle.types.specs.declared.object.KObject.{KObject}
@@ -170,3 +171,5 @@ over-held b k v g = record {
   same = g.same;
   sizes = record { nt = g.sizes.nt; ns = g.sizes.ns; ne = g.sizes.ne; nw = g.sizes.nw; ni = g.sizes.ni };
 }
+
+pub ruleset asks = (common_steps, and_yes, and_no, and-end, and-false, or_yes, or_no, free-is)

@@ -1,4 +1,5 @@
 -- The record of a thread that parks: where it goes, and what the block holds then. Assumes nothing.
+use Rattle.std.proofs.lemmas.Grind.{common_steps}
 use Rattle.std.specs.Prelude.{Some, None, is_some}
 use mathlib.Core.Path.{◌≡◌, refl, sym, ap, subst, ◌∙◌}
 use mathlib.Core.Bool.{Bool, true, false, not}
@@ -16,7 +17,6 @@ use Rattle.types.specs.declared.kernel.Kernel.{Kernel}
 use Rattle.types.specs.Object.{head_of}
 use Rattle.block.specs.declared.Head.{Head}
 use Rattle.block.specs.Table.{enc_waiter, dec_waiter}
-use Rattle.block.specs.Thread.{four}
 use Rattle.block.specs.Block.{head_words, dec_block}
 use Rattle.sound.specs.View.{slot_at, object_at, waiter_nexts, waiter_threads, waiter_addresses}
 use Rattle.sound.specs.Records.{chain_of, has?}
@@ -109,14 +109,26 @@ module _ (b : List ℕ) (k : Kernel) (g : Holds b k) (o t a : ℕ) where
   hung_on ws last r = waiter_put (waiter_put ws last (with_next (waiter_at ws last) r)) r (record { thread = t; address = a; next = 0 })
 
   abbrev head_after : Head → ℕ → Head
-  head_after h n = record { a = h.a; b = h.b; c = four h.c.0 n h.c.2 h.c.3; d = h.d }
+  head_after h n = record h { free_waiter = n }
 
   pub stored_in : (h : Head) → h ≡ head_words k → (x : Slot) → x ≡ slot_at s.slots o → (ws : List Waiter) → ws ≡ s.waiters → (last : ℕ) → last ≡ last_of (chain_of s o)
-      → (l : List Waiter) → l ≡ hung_on ws last h.c.1 → length l ≡ 64 → (first : ℕ) → first ≡ pick (eqb (head_of x.object) 0) h.c.1 (head_of x.object)
-      → Holds (head_put (slot_put (over b 12416 (enc_all enc_waiter l)) o (with_object x (with_head x.object first))) (head_after h (waiter_at ws h.c.1).next)) (with_objects k (pushed s o t a))
+      → (l : List Waiter) → l ≡ hung_on ws last h.free_waiter → length l ≡ 64 → (first : ℕ) → first ≡ pick (eqb (head_of x.object) 0) h.free_waiter (head_of x.object)
+      → Holds (head_put (slot_put (over b 12416 (enc_all enc_waiter l)) o (with_object x (with_head x.object first))) (head_after h (waiter_at ws h.free_waiter).next)) (with_objects k (pushed s o t a))
   stored_in h e x ex ws ew last el l eh n first ef =
-      let q : l ≡ (pushed s o t a).waiters = eh ∙ (λ i. hung_on (ew i) (el i) (e i).c.1) in
-      let f : first ≡ pick (eqb (head_of (object_at s o)) 0) free (head_of (object_at s o)) = ef ∙ (λ i. pick (eqb (head_of (ex i).object) 0) (e i).c.1 (head_of (ex i).object)) in
+      let q : l ≡ (pushed s o t a).waiters = eh ∙ (λ i. hung_on (ew i) (el i) (e i).free_waiter) in
+      let f : first ≡ pick (eqb (head_of (object_at s o)) 0) free (head_of (object_at s o)) = ef ∙ (λ i. pick (eqb (head_of (ex i).object) 0) (e i).free_waiter (head_of (ex i).object)) in
       let m : length (pushed s o t a).waiters ≡ 64 = ap length (sym q) ∙ n in
       rw (q, e, ex, ew, f ∙ sym (first_walk (waiter_nexts s.waiters) 63 (head_of (object_at s o)) free))
       (put-head (put-slot (put-waiters g (pushed s o t a).waiters m) o _) (with_objects k (pushed s o t a)) refl refl refl refl refl)
+
+pub ruleset places = (
+  common_steps,
+  waiters_are,
+  place_other,
+  place_arbiter,
+  place-some,
+  held_as,
+  push_kept,
+  place-last,
+  push_stored,
+)

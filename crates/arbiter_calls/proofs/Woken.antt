@@ -5,6 +5,7 @@ use mathlib.Core.List.{List, [], ◌∷◌}
 use Prim.Native.Nat.{ℕ, zero, suc, ◌+◌, ◌*◌, ◌≤◌, ◌<◌}
 use native.Mathlib.Numerals.{add-one}
 use native.Mathlib.Omega.{arith}
+use lib.Dec.{eqb}
 use lib.ListN.{length, get_or, set, take, drop}
 use lib.Seq.{drop-drop}
 use borrow.Author.Tests.{lt-ltb}
@@ -19,7 +20,7 @@ use Rattle.types.specs.declared.kernel.Kernel.{Kernel}
 use Rattle.types.specs.Object.{head_of}
 use Rattle.block.specs.declared.Head.{Head}
 use Rattle.block.specs.Table.{enc_waiter}
-use Rattle.block.specs.Thread.{four, enc_thread, dec_thread}
+use Rattle.block.specs.Thread.{enc_thread, dec_thread}
 use Rattle.block.specs.Block.{head_words, dec_block}
 use Rattle.block.proofs.Sizes.{length-enc_thread}
 use Rattle.sound.specs.View.{thread_at, no_thread, slot_at, object_at}
@@ -34,15 +35,13 @@ use Rattle.rows.specs.Rows.{thread_put, slot_put, head_put}
 use Rattle.rows.specs.Holds.{Holds, holds, put-thread, put-slot, put-waiters, put-head}
 use Rattle.rows.specs.Sizes.{size-threads}
 use Rattle.due.proofs.Looked.{thread-is}
-use Rattle.arbiter.specs.declared.mark.Mark.{Mark}
-use Rattle.arbiter.specs.declared.mark.Mark.TheVariants.{Elsewhere}
-use Rattle.arbiter.specs.Marks.{is_woken, parked_marks, marks_after, unlink_marked, wake_marked}
+use Rattle.arbiter.specs.Marks.{parked_marks, marks_after, unlink_marked, wake_marked}
 use Rattle.arbiter.proofs.Wakes.{signal-is, signal-none}
 
 -- ---- the first i threads done; n is the number of the first
-module _ (p : List Mark) where
+module _ (p : List ℕ) where
   abbrev wakes : ℕ → Bool
-  wakes n = is_woken (get_or p n Elsewhere)
+  wakes n = eqb (get_or p n 0) 2
 
   abbrev woken_one : ℕ → Thread → Thread
   woken_one n t = pick (wakes n) (woken_up t) t
@@ -79,7 +78,7 @@ module _ (p : List Mark) where
   woken-full (suc i) n (t ∷ ts) h = ap (λ x. woken_one n t ∷ x) (woken-full i (suc n) ts (omega arith))
 
 -- ---- one turn; s is the block before the first
-module _ (p : List Mark) (s : List ℕ) where
+module _ (p : List ℕ) (s : List ℕ) where
   abbrev before : List Thread
   before = (dec_block s).threads
 
@@ -110,7 +109,7 @@ module _ (p : List Mark) (s : List ℕ) where
     add-zero-i : i + 0 ≡ i
     add-zero-i = omega arith
 
-    pub woken-next : is_woken (get_or p i Elsewhere) ≡ false → WokenTo (i + 1) b
+    pub woken-next : eqb (get_or p i 0) 2 ≡ false → WokenTo (i + 1) b
     woken-next e =
         let z = add-zero-i in
         let r : woken_to p i 0 before ≡ woken_to p (i + 1) 0 before =
@@ -121,7 +120,7 @@ module _ (p : List Mark) (s : List ℕ) where
     unfolding thread_put
     put_is x = rw (lt-ltb i 32 h)
 
-    pub woken-more : is_woken (get_or p i Elsewhere) ≡ true → (t x : Thread) → t ≡ thread_at (dec_block b).threads i
+    pub woken-more : eqb (get_or p i 0) 2 ≡ true → (t x : Thread) → t ≡ thread_at (dec_block b).threads i
         → x ≡ woken_up t → WokenTo (i + 1) (thread_put b i x)
     woken-more e t x et ex =
         let z = add-zero-i in
@@ -149,7 +148,7 @@ module _ (b e : List ℕ) (o a value : ℕ) where
   abbrev s : ObjectStore
   s = k.objects
 
-  abbrev pub marks : List Mark
+  abbrev pub marks : List ℕ
   marks = marks_after s.waiters a value (parked_marks k.threads a) 0 (chain_of s o)
 
   abbrev pub unlinked : Links
@@ -161,7 +160,7 @@ module _ (b e : List ℕ) (o a value : ℕ) where
   pub signaled : (h : Head) → h ≡ head_words k → (x : Slot) → x ≡ slot_at s.slots o → (u : Links) → u ≡ unlinked
       → length u.waiters ≡ 64
       → Holds e (with_threads k (wake_marked marks 0 k.threads) s)
-      → Holds (head_put (slot_put (over e 12416 (enc_all enc_waiter u.waiters)) o (with_object x (with_head x.object u.head))) (record { a = h.a; b = h.b; c = four h.c.0 u.free h.c.2 h.c.3; d = h.d })) (signal_address k o a value)
+      → Holds (head_put (slot_put (over e 12416 (enc_all enc_waiter u.waiters)) o (with_object x (with_head x.object u.head))) (record h { free_waiter = u.free })) (signal_address k o a value)
   signaled h eh x ex u eu n g =
       let m : length unlinked.waiters ≡ 64 = ap (λ (z : Links). length z.waiters) (sym eu) ∙ n in
       subst (Holds _) (signal-is k o a value)

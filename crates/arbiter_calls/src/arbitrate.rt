@@ -16,9 +16,9 @@ use svc::Registers;
 use types::refusal::Refusal;
 use types::sync::ArbitrationType;
 use types::thread::WAIT_LIST;
-use units::{Handle, Ticks};
+use units::{Handle, Nanos, Ticks};
 
-// The word at the address, 0 for a call that reads none.
+// The word at the address, 0 for a call that reads none. The words and their count are as in `dispatch`.
 fn first_word(words: [u32; WAIT_LIST], n: u32) -> u32
     ensures { result ≡ get_or (take n words) 0 0 }
 {
@@ -35,7 +35,7 @@ fn no_kind(block: &Block) -> Result<Outcome, Refusal>
     ensures block_value_2 { block.now ≡ left (call.answers 18 (dec_block block.now)) block.now }
 {
     outcome::room(false, outcome::out_of_handles(block))?;
-    Ok(outcome::answers(Answer::UnknownKind))
+    Ok(Outcome::from(Answer::UnknownKind))
 }
 
 // Threads parked at the address wake.
@@ -46,7 +46,7 @@ fn signal(block: &mut Block, h: Handle, a: u32, value: u32) -> Result<Outcome, R
 {
     let o = open::resolve(block, h)?;
     if o.0 == 0 {
-        return Ok(outcome::answers(Answer::UnknownHandle));
+        return Ok(Outcome::from(Answer::UnknownHandle));
     }
     wake::signal_address(block, o, a, value);
     Ok(outcome::done())
@@ -61,12 +61,13 @@ fn go_on(block: &mut Block, h: Handle) -> Result<Outcome, Refusal>
 {
     let o = open::resolve(block, h)?;
     if o.0 == 0 {
-        return Ok(outcome::answers(Answer::UnknownHandle));
+        return Ok(Outcome::from(Answer::UnknownHandle));
     }
     Ok(outcome::done())
 }
 
 // The current thread parks if the word is less than the value.
+#[tactic(auto, using(crate::proofs::ByKind::kinds))]
 fn wait_below(
     block: &mut Block,
     h: Handle,
@@ -90,6 +91,7 @@ fn wait_below(
 }
 
 // A kind that waits.
+#[tactic(auto, using(crate::proofs::ByKind::kinds))]
 fn wait_kind(
     block: &mut Block,
     kind: ArbitrationType,
@@ -101,7 +103,7 @@ fn wait_kind(
     ensures value { result ≡ outcome (on_handle (dec_block block.old) r.r0 (waits_as kind r word tick.0)) }
     ensures block_after { block.new ≡ left (on_handle (dec_block block.old) r.r0 (waits_as kind r word tick.0)) block.old }
 {
-    let time = arbiter::park::park_time(kind::has_timeout(kind), svc::read::pair(r.r4, r.r5));
+    let time = arbiter::park::park_time(kind::has_timeout(kind), Nanos::from_words(r.r4, r.r5));
     let decrements = kind::decrements(kind);
     wait_below(
         block,
@@ -116,6 +118,7 @@ fn wait_kind(
 }
 
 // A known kind. What it calls opens the handle.
+#[tactic(auto, using(crate::proofs::ByKind::kinds))]
 fn arbitrate_for(
     block: &mut Block,
     kind: ArbitrationType,
@@ -135,6 +138,7 @@ fn arbitrate_for(
 
 // r0 handle, r1 address, r2 kind, r3 value, r4 and r5 nanoseconds; the word at the address is the first of the n words,
 // for the kinds that wait.
+#[tactic(auto, using(crate::proofs::ByKind::kinds))]
 pub fn arbitrate_address(
     block: &mut Block,
     r: Registers,

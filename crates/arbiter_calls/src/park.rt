@@ -21,16 +21,15 @@ use types::refusal::Refusal;
 use units::{Handle, ObjectId, Ticks};
 
 // Whether the current thread would store a record; without a current thread nobody parks.
+#[tactic(auto, using(crate::proofs::Records::places))]
 fn stores_as(block: &Block, current: Option<u32>, o: ObjectId, a: u32) -> bool
     ensures { result ≡ stores_as (dec_block block.now).objects current o.0 a }
 {
-    match current {
-        None => false,
-        Some(c) => record::place_for(block, o, c, a).is_some(),
-    }
+    current.is_some_and(|c| record::place_for(block, o, c, a).is_some())
 }
 
 // A record would be stored, and none is free. A pseudo-handle names no arbiter, and only an arbiter stores records.
+#[tactic(auto, using(crate::proofs::Found::asks))]
 fn no_record(block: &Block, h: Handle, a: u32) -> bool
     ensures { result ≡ no_record (dec_block block.now) h.0 a }
 {
@@ -44,6 +43,7 @@ fn no_record(block: &Block, h: Handle, a: u32) -> bool
 }
 
 // A sum that does not fit counts only where the thread parks: if the handle names an object.
+#[tactic(auto, using(crate::proofs::Found::asks))]
 fn over_known(block: &Block, h: Handle, over: bool) -> bool
     requires block_value { sound? block.now ≡ true }
     requires h_value { no_room (dec_block block.now) h.0 ≡ false }
@@ -53,6 +53,7 @@ fn over_known(block: &Block, h: Handle, over: bool) -> bool
 }
 
 // What is found if the current thread parks through the handle; over says that a sum of the call does not fit.
+#[tactic(auto, using(crate::proofs::Found::asks), unfolding(crate::specs::Found::found_parking))]
 fn found_parking(block: &Block, h: Handle, a: u32, over: bool) -> Result<(), Refusal>
     requires block_value { sound? block.now ≡ true }
     ensures { result ≡ unless_found (found_parking (dec_block block.now) h.0 a over) tt }
@@ -107,7 +108,7 @@ pub fn park_current(
     found_parking(block, h, a, over)?;
     let o = open::resolve(block, h)?;
     if o.0 == 0 {
-        return Ok(outcome::answers(Answer::UnknownHandle));
+        return Ok(Outcome::from(Answer::UnknownHandle));
     }
     park_by(block, o, a, time, tick);
     Ok(Outcome {

@@ -9,14 +9,15 @@ ghost use Rattle.rows.specs.Holds.{Holds};
 ghost use Rattle.arbiter_calls.specs.Record.{place_for};
 
 use block::{Block, Head, record};
-use codec::Four;
 use object::waiters;
 use rows::{read, write};
 use types::object::Waiter;
 use units::ObjectId;
 
 // Behind which record that of a thread is stored, 0 for the first of a chain; none where it is not stored: only an
-// arbiter stores records, and no second one of a thread for one address.
+// arbiter stores records, and no second one of a thread for one address. Thread and address are no `Waiter` here, which
+// has the next of a chain as well.
+#[tactic(auto, using(crate::proofs::Records::places))]
 pub fn place_for(block: &Block, o: ObjectId, t: u32, a: u32) -> Option<u32>
     ensures { result ≡ place_for (dec_block block.now).objects o.0 t a }
 {
@@ -35,32 +36,32 @@ fn put_record(block: &mut Block, o: ObjectId, last: u32, t: u32, a: u32)
     ensures { Holds block.new (with_objects (dec_block block.old) (pushed (dec_block block.old).objects o.0 t a)) }
 {
     let head = block::get_head(block);
-    let c = head.c;
     let old = read::slot_at(block, o);
     let mut ws = record::read_all(block, 12416);
-    let unused = waiters::waiter_at(&ws, c.1);
+    let unused = waiters::waiter_at(&ws, head.free_waiter);
     waiters::hang(
         &mut ws,
         last,
-        c.1,
+        head.free_waiter,
         Waiter {
             thread: t,
             address: a,
             next: 0,
         },
     );
-    let first = waiters::first_of(types::object::head_of(old.object), c.1);
+    let first = waiters::first_of(types::object::head_of(old.object), head.free_waiter);
     record::write_all(block, 12416, &ws);
     write::put_slot(block, o, waiters::headed(old, first));
     write::put_head(
         block,
         Head {
-            c: Four(c.0, unused.next, c.2, c.3),
+            free_waiter: unused.next,
             ..head
         },
     );
 }
 
+#[tactic(auto, using(crate::proofs::Records::places))]
 pub fn put_pushed(block: &mut Block, o: ObjectId, t: u32, a: u32)
     requires block_value { sound? block.old ≡ true }
     ensures { Holds block.new (with_objects (dec_block block.old) (push (dec_block block.old).objects o.0 t a)) }

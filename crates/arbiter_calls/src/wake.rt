@@ -7,19 +7,17 @@ ghost use Rattle.svc.specs.Arbiter as def;
 ghost use Rattle.rows.specs.Holds.{Holds};
 ghost use Rattle.arbiter.specs.Marks.{parked_marks, wake_marked};
 
-use arbiter::mark::Mark;
 use arbiter::wake;
 use block::{Block, Head, record};
-use codec::Four;
 use object::waiters;
 use rows::{read, write};
 use units::ObjectId;
 
 // Which threads are parked at the address.
-fn parked_marks(block: &Block, a: u32) -> [Mark; 32]
+fn parked_marks(block: &Block, a: u32) -> [u32; 32]
     ensures { result ≡ parked_marks (dec_block block.now).threads a }
 {
-    let mut r = [Mark::Elsewhere; 32];
+    let mut r = [0u32; 32];
     for i in 0..32 {
         r[i] = wake::parked_mark(read::thread_at(block, i as u32), a);
     }
@@ -27,7 +25,7 @@ fn parked_marks(block: &Block, a: u32) -> [Mark; 32]
 }
 
 // The threads that are marked as woken. One is read before it is written, and a write leaves those after it alone.
-fn wake_threads(block: &mut Block, p: [Mark; 32])
+fn wake_threads(block: &mut Block, p: [u32; 32])
     requires block_value { sound? block.old ≡ true }
     ensures { Holds block.new (with_threads (dec_block block.old) (wake_marked p 0 (dec_block block.old).threads) (dec_block block.old).objects) }
 {
@@ -50,17 +48,16 @@ pub fn signal_address(block: &mut Block, o: ObjectId, a: u32, value: u32)
         return;
     }
     let head = block::get_head(block);
-    let c = head.c;
     let mut ws = record::read_all(block, 12416);
     let mut parked = parked_marks(block, a);
-    let u = wake::unlink_chain(&mut ws, &mut parked, a, value, first, c.1);
+    let u = wake::unlink_chain(&mut ws, &mut parked, a, value, first, head.free_waiter);
     wake_threads(block, parked);
     record::write_all(block, 12416, &ws);
     write::put_slot(block, o, waiters::headed(old, u.head));
     write::put_head(
         block,
         Head {
-            c: Four(c.0, u.free, c.2, c.3),
+            free_waiter: u.free,
             ..head
         },
     );

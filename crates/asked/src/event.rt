@@ -29,6 +29,7 @@ fn look_at_threads(m: &mut [u32; 129], b: &Block) -> Option<Ticks>
 }
 
 // A slot that no blocked thread waits on is not read.
+#[tactic(auto, using(laws::specs::Logic::pick_yes, laws::specs::Logic::pick_no, due::proofs::Looked::slot_is))]
 fn due_at(waited: bool, best: Option<Ticks>, b: &Block, i: usize) -> Option<Ticks>
     requires i_bound { i < 128 }
     ensures { result ≡ due_after waited best (get_or (dec_block b.now).objects.slots i no_slot) }

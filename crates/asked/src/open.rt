@@ -8,6 +8,7 @@ use rows::read;
 use units::{Handle, ObjectId};
 
 // The object that a handle names, 0 if it names none; a pseudo-handle counts as none.
+#[tactic(auto, using(laws::specs::Logic::pick_yes, laws::specs::Logic::pick_no))]
 pub fn open_object(b: &Block, h: Handle) -> ObjectId
     ensures { result.0 ≡ open_object (dec_block b.now) h.0 }
 {

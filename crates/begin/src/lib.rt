@@ -2,22 +2,15 @@
 #![tactic(auto)]
 
 ghost use Rattle.std.specs.Prelude.{◌≡◌};
-ghost use Rattle.pass.specs.Timers.{saturating_add};
 ghost use Rattle.pass.specs.Waits as def;
 
 use types::thread::{Thread, ThreadStatus, WAIT_LIST};
 use units::{ObjectId, Ticks};
 
-pub fn saturating_add(a: Ticks, b: Ticks) -> Ticks
-    ensures { result.0 ≡ saturating_add a.0 b.0 }
-{
-    Ticks(a.0.saturating_add(b.0))
-}
-
 pub fn wake_tick(timeout: Option<Ticks>, tick: Ticks) -> Option<Ticks>
     ensures { result ≡ def.wake_tick timeout tick.0 }
 {
-    timeout.map(|d| saturating_add(tick, d))
+    timeout.map(|d| Ticks(tick.0.saturating_add(d.0)))
 }
 
 pub fn waiting(

@@ -26,7 +26,7 @@ use Rattle.block.specs.declared.Head.{Head}
 use Rattle.block.specs.Table.{enc_entry, dec_entry, enc_waiter, dec_waiter, enc_id, enc_ids, dec_id}
 use Rattle.block.specs.Thread.{spare_bytes, thread_words, words_list, thread_w, thread_of, enc_words, enc_thread, dec_thread}
 use Rattle.block.specs.Slot.{words, slot_w, slot_fields, slot_of, enc_slot, dec_slot}
-use Rattle.block.specs.Block.{head_words, head_list, head_w, enc_head, enc_block, kernel_of, dec_block}
+use Rattle.block.specs.Block.{head_words, head_at, head_list, head_w, enc_head, enc_block, kernel_of, dec_block}
 use Rattle.block.proofs.Row.{length-all}
 use Rattle.block.proofs.Sizes.{length-enc_id, enc_ids-all, length-enc_entry, length-enc_waiter, length-enc_slot, length-enc_thread, length-enc_head}
 use Rattle.block.proofs.Enums.{option-back, option-flag-fits, option_value_fits, tick-option-back, tick_value_fits, status-back, status-fits, result-back, result_fits, result-index-fits, syscall_back, syscall_fits, object-back, object-fits}
@@ -240,8 +240,32 @@ head_as : (h : Head) → enc_head h ≡ enc_as head_w (head_list h) ++ replicate
 unfolding enc_head enc_as
 head_as h = simp (append_assoc, append-nil)
 
+-- the head of an encoding, whatever follows it
+pub head-back : (k : Kernel) (y : List ℕ) → Fit head_w (head_list (head_words k)) → head_at (enc_head (head_words k) ++ y) ≡ head_words k
+unfolding dec_as
+head-back k y f =
+    let h = head_words k in
+    let w : enc_head h ++ y ≡ enc_as head_w (head_list h) ++ (replicate 64 0 ++ y) = rw (head_as h, append_assoc) in
+    let e = ap (λ (s : List ℕ). dec_as head_w s 0) w ∙ dec_as_enc head_w (head_list h) (replicate 64 0 ++ y) f in
+    λ i. record {
+      status_word = get_or (e i) 0 0;
+      thread_count = get_or (e i) 1 0;
+      current_flag = get_or (e i) 2 0;
+      current_value = get_or (e i) 3 0;
+      next_tls_slot = get_or (e i) 4 0;
+      next_guest_id = get_or (e i) 5 0;
+      all_blocked = get_or (e i) 6 0;
+      relief = get_or (e i) 7 0;
+      free = get_or (e i) 8 0;
+      free_waiter = get_or (e i) 9 0;
+      handle_count = get_or (e i) 10 0;
+      next_handle = get_or (e i) 11 0;
+      process_object = get_or (e i) 12 0;
+      spare = get_or (e i) 13 0 ∷ get_or (e i) 14 0 ∷ get_or (e i) 15 0 ∷ [];
+    }
+
 kernel_again : (k : Kernel) → Clean k
-    → kernel_of (head_list (head_words k)) k.threads k.objects.slots k.handles.entries k.objects.waiters k.objects.thread_objects ≡ k
+    → kernel_of (head_words k) k.threads k.objects.slots k.handles.entries k.objects.waiters k.objects.thread_objects ≡ k
 kernel_again k f = λ i. record {
   status_word = k.status_word;
   objects = record {
@@ -269,7 +293,6 @@ kernel_again k f = λ i. record {
 pub block_back : (k : Kernel) → StateFits k → dec_block (enc_block k) ≡ k
 unfolding dec_block enc_block
 block_back k f =
-    let vs = head_list (head_words k) in
     let H = enc_head (head_words k) in
     let X1 = enc_all enc_thread k.threads in
     let X2 = enc_all enc_slot k.objects.slots in
@@ -282,8 +305,7 @@ block_back k f =
     let Y2 = X2 ++ Y3 in
     let Y1 = X1 ++ Y2 in
     let W = H ++ Y1 in
-    let w : W ≡ enc_as head_w vs ++ (replicate 64 0 ++ Y1) = rw (head_as (head_words k), append_assoc) in
-    let e : dec_as head_w W 0 ≡ vs = rw w (dec_as_enc head_w vs (replicate 64 0 ++ Y1) f.head) in
+    let e = head-back k Y1 f.head in
     let d1 : drop 128 W ≡ Y1 = drop_at H Y1 128 (length-enc_head (head_words k)) in
     let d2 : drop 5248 W ≡ Y2 = drop-next W 128 5120 X1 Y2 d1 (length-all enc_thread 160 length-enc_thread 32 k.threads f.nt) in
     let d3 : drop 10368 W ≡ Y3 = drop-next W 5248 5120 X2 Y3 d2 (length-all enc_slot 40 length-enc_slot 128 k.objects.slots f.ns) in

@@ -24,7 +24,8 @@ abbrev pub mutex_words : mu.Mutex → ObjectWords
 mutex_words m = words 3 (option_flag m.owner) (option_value m.owner) m.lock_count 0 0
 
 abbrev pub timer_words : ti.Timer → ObjectWords
-timer_words t = words 5 (reset_number t.reset_type) (bool_byte t.signaled) (option_flag t.fire_at) (tick_value t.fire_at) t.interval.0
+timer_words t = words 5 (reset_number t.reset_type) (bool_byte t.signaled) (option_flag t.fire_at)
+    (tick_value t.fire_at) t.interval.0
 
 -- what a kind does not have is 0
 abbrev pub object_words : KObject → ObjectWords

@@ -7,7 +7,8 @@ use Rattle.codec.specs.Groups.{four_bytes}
 use Rattle.codec.specs.declared.Four.{Four}
 use Rattle.units.specs.declared.ObjectId.{ObjectId}
 use Rattle.types.specs.declared.thread.Thread.{Thread}
-use Rattle.types.specs.Thread.{wait_list, status_number, status_of, option_flag, tick_value, tick_option, option_value, option_of, result_number, result_index, result_of, syscall_number, syscall_of}
+use Rattle.types.specs.Thread.{wait_list, status_number, status_of, option_flag, tick_value, tick_option, option_value}
+use Rattle.types.specs.Thread.{option_of, result_number, result_index, result_of, syscall_number, syscall_of}
 use Rattle.block.specs.declared.thread.ThreadWords.{ThreadWords}
 use Rattle.block.specs.Table.{enc_ids, dec_id}
 

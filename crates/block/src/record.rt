@@ -12,7 +12,7 @@ use types::thread::Thread;
 use units::ObjectId;
 
 // What is written as bytes of one number, and read from them.
-pub trait Record: Copy {
+pub trait Record: Copy + Default {
     ghost SIZE: { ℕ };
 
     ghost enc: { Self → List ℕ };
@@ -21,9 +21,6 @@ pub trait Record: Copy {
 
     // How many bytes a record takes.
     const SIZE: usize;
-
-    // What an array is filled with before its records are read. Every place is written, so it is left open.
-    fn blank() -> Self;
 
     fn get(s: &[u8]) -> Self
         requires { length s.now ≡ SIZE }
@@ -54,12 +51,13 @@ pub fn write<R: Record>(b: &mut [u8], at: usize, i: usize, x: R)
     x.put(&mut b[from..from + R::SIZE]);
 }
 
-// All N records from at on. Not by `array::from_fn`, which copies the table once more, on the stack too.
+// All N records from at on, each over a default value. Not by `array::from_fn`, which copies the table once more, on
+// the stack too.
 pub fn read_all<R: Record, const N: usize>(b: &[u8], at: usize) -> [R; N]
     requires { at + N * R.SIZE ≤ length b.now }
     ensures { result ≡ dec_all R.dec R.SIZE N b.now at }
 {
-    let mut l = [R::blank(); N];
+    let mut l = [R::default(); N];
     for i in 0..N {
         l[i] = read(b, at, i);
     }
@@ -77,7 +75,8 @@ pub fn write_all<R: Record, const N: usize>(b: &mut [u8], at: usize, l: &[R; N])
     }
 }
 
-// The tables of a block by name: each has a place and a bound of its own, which a call would have to repeat.
+// The tables of a block by name. Place and bound are no constants of `Record`: object numbers stand in two tables, the
+// kept objects and each thread's list.
 pub fn thread_at(b: &Block, i: usize) -> Thread
     requires i_bound { i < 32 }
     ensures { result ≡ dec_thread (take 160 (drop (128 + i * 160) b.now)) }

@@ -172,14 +172,6 @@ impl Record for Slot {
 
     const SIZE: usize = 40;
 
-    fn blank() -> Slot {
-        Slot {
-            object: KObject::Free(0),
-            refcount: 0,
-            pulsed: false,
-        }
-    }
-
     #[tactic(auto, unfolding(crate::specs::Slot::dec_slot, codec::specs::Layout::dec_as))]
     fn get(s: &[u8]) -> Slot {
         let t = codec::get_two(s, 4);

@@ -16,13 +16,6 @@ impl Record for HandleEntry {
 
     const SIZE: usize = 8;
 
-    fn blank() -> HandleEntry {
-        HandleEntry {
-            handle: Handle(0),
-            object: ObjectId(0),
-        }
-    }
-
     #[tactic(auto, unfolding(crate::specs::Table::dec_entry))]
     fn get(s: &[u8]) -> HandleEntry {
         let w = codec::get_two(s, 0);
@@ -47,14 +40,6 @@ impl Record for Waiter {
     ghost dec = { dec_waiter };
 
     const SIZE: usize = 12;
-
-    fn blank() -> Waiter {
-        Waiter {
-            thread: 0,
-            address: 0,
-            next: 0,
-        }
-    }
 
     #[tactic(auto, unfolding(crate::specs::Table::dec_waiter))]
     fn get(s: &[u8]) -> Waiter {
@@ -82,10 +67,6 @@ impl Record for ObjectId {
     ghost dec = { dec_id };
 
     const SIZE: usize = 4;
-
-    fn blank() -> ObjectId {
-        ObjectId(0)
-    }
 
     #[tactic(auto, unfolding(crate::specs::Table::dec_id))]
     fn get(s: &[u8]) -> ObjectId {

@@ -109,27 +109,6 @@ impl Record for Thread {
 
     const SIZE: usize = 160;
 
-    fn blank() -> Thread {
-        Thread {
-            status: ThreadStatus::Dead,
-            priority: 0,
-            entry: 0,
-            stack_top: 0,
-            tls: 0,
-            processor_id: 0,
-            wait_objects: [ObjectId(0); WAIT_LIST],
-            wait_count: 0,
-            wait_all: false,
-            wakeup_at: None,
-            running_since: Ticks(0),
-            waited: false,
-            wait_address: None,
-            wait_result: None,
-            wait_syscall: None,
-            guest_id: 0,
-        }
-    }
-
     #[tactic(auto, unfolding(crate::specs::Thread::dec_thread))]
     fn get(s: &[u8]) -> Thread {
         thread_of(get_words(s), record::read_all(s, 80))

@@ -63,5 +63,8 @@ module _ (w : ObjectWords) where
   as_timer e =
       let o = tick_option w.c w.x in
       let t : same (w.c ∷ w.x ∷ w.y ∷ []) (option_flag o ∷ tick_value o ∷ w.y ∷ []) ≡ tick? w.c w.x =
-      two-words w.c w.x (option_flag o) (tick_value o) (w.y ∷ []) (w.y ∷ []) ∙ ap (λ (b : Bool). tick? w.c w.x and b) (same_refl (w.y ∷ [])) ∙ and-end (tick? w.c w.x) in
-      sym (ap kinded e ∙ same-on 5 5 _ _ refl ∙ resets w.a w.b (w.c ∷ w.x ∷ w.y ∷ []) (option_flag o ∷ tick_value o ∷ w.y ∷ []) ∙ ap (λ (b : Bool). reset? w.a w.b and b) t)
+      two-words w.c w.x (option_flag o) (tick_value o) (w.y ∷ []) (w.y ∷ []) ∙ ap (λ (b : Bool). tick? w.c w.x and b)
+      (same_refl (w.y ∷ [])) ∙ and-end (tick? w.c w.x) in
+      sym (ap kinded e ∙ same-on 5 5 _ _ refl
+      ∙ resets w.a w.b (w.c ∷ w.x ∷ w.y ∷ []) (option_flag o ∷ tick_value o ∷ w.y ∷ [])
+      ∙ ap (λ (b : Bool). reset? w.a w.b and b) t)

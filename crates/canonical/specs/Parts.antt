@@ -1,5 +1,6 @@
 -- Each part of a block compared with the encoding of what it decodes to: which of its words are looked at. Assumes nothing.
-use Rattle.std.specs.Prelude.{◌≡◌, refl, Bool, true, false, ◌≢◌, List, [], ◌∷◌, ◌++◌, ℕ, ◌<◌, ◌*◌, eqb, ltb, length, take, drop, replicate}
+use Rattle.std.specs.Prelude.{◌≡◌, refl, Bool, true, false, ◌≢◌, List, [], ◌∷◌, ◌++◌, ℕ, ◌<◌, ◌*◌, eqb, ltb, length}
+use Rattle.std.specs.Prelude.{take, drop, replicate}
 use Rattle.std.proofs.Common.{sym, ap, ◌∙◌, append-nil, arith, length-drop, take_all, eqb-true, eq-eqb, ne_eqb}
 use mir.Val.{bool_byte}
 use Rattle.std.proofs.lemmas.Bool.{eqb-false}
@@ -122,7 +123,11 @@ abbrev said_w : List ℕ
 said_w = replicate 13 4
 
 abbrev said : Head → List ℕ
-said h = h.a.0 ∷ h.a.1 ∷ h.a.2 ∷ h.a.3 ∷ h.b.0 ∷ h.b.1 ∷ h.b.2 ∷ h.b.3 ∷ h.c.0 ∷ h.c.1 ∷ h.c.2 ∷ h.c.3 ∷ h.d.0 ∷ []
+said h =
+    h.status_word ∷ h.thread_count ∷ h.current_flag ∷ h.current_value
+    ∷ h.next_tls_slot ∷ h.next_guest_id ∷ h.all_blocked ∷ h.relief
+    ∷ h.free ∷ h.free_waiter ∷ h.handle_count ∷ h.next_handle
+    ∷ h.process_object ∷ []
 
 said_as : (k : Kernel) → enc_head (head_words k) ≡ enc_as said_w (said (head_words k)) ++ replicate 76 0
 unfolding enc_head enc_as bytes
@@ -163,7 +168,8 @@ head-parts b h e =
     let t : Fit said_w vs = fit_front said_w (4 ∷ 4 ∷ 4 ∷ []) vs (0 ∷ 0 ∷ 0 ∷ []) refl (block-fits b h).head in
     let x : same (take 52 b) (enc_as said_w vs) ≡ same (dec_as said_w b 0) vs = same_fields said_w vs b 0 h (omega arith) t in
     let y : same (dec_as said_w b 0) vs ≡ O and (eqb p (bool_byte (eqb p 1)) and eqb q (bool_byte (eqb q 1))) =
-    same-said (le 4 b 0) (le 4 b 4) f v (le 4 b 16) (le 4 b 20) p q (le 4 b 32) (le 4 b 36) (le 4 b 40) (le 4 b 44) (le 4 b 48) (option_flag o) (option_value o) (bool_byte (eqb p 1)) (bool_byte (eqb q 1)) in
+    same-said (le 4 b 0) (le 4 b 4) f v (le 4 b 16) (le 4 b 20) p q (le 4 b 32) (le 4 b 36) (le 4 b 40) (le 4 b 44)
+    (le 4 b 48) (option_flag o) (option_value o) (bool_byte (eqb p 1)) (bool_byte (eqb q 1)) in
     let u = x ∙ y ∙ (λ i. O and (flag-test p i and flag-test q i)) in
     (λ i. same (sym j i) (said_as k i)) ∙ c ∙ (λ i. u i and z) ∙ sym (and_assoc O (ltb p 2 and ltb q 2) z) ∙ (λ i. O and sym (and_assoc (ltb p 2) (ltb q 2) z) i)
 

@@ -21,6 +21,7 @@ pub fn same_option(flag: u32, value: u64) -> bool
 }
 
 // The other words say themselves, but the last three and all that is spare, which are zero.
+#[tactic(auto, using(crate::proofs::Tests::heads))]
 pub fn head_same(b: &Block) -> bool
     ensures { result ≡ same (take 128 b.now) (enc_head (head_words (dec_block b.now))) }
 {

@@ -15,6 +15,7 @@ use block::Block;
 use types::object::Slot;
 use types::thread::Thread;
 
+#[tactic(auto, using(crate::proofs::Tests::blocks))]
 pub fn canonical(b: &Block) -> bool
     ensures { result ≡ same b.now (enc_block (dec_block b.now)) }
 {

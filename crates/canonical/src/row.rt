@@ -13,6 +13,7 @@ pub trait Canonical: Record {
 }
 
 // Whether n records from at on are the encoding of what they say.
+#[tactic(auto, using(crate::proofs::Tests::rows))]
 pub fn rows_same<R: Canonical>(b: &[u8], at: usize, n: usize) -> bool
     requires { at + n * R.SIZE ≤ length b.now }
     ensures { result ≡ rows? R.enc R.dec R.SIZE n b.now at }

@@ -72,7 +72,13 @@ store_of x = record {
 }
 
 abbrev timer_due : ℕ → ℕ → KObject
-timer_due at interval = Timer (record { reset_type = OneShot; signaled = false; fire_at = Some (record { 0 = at }); interval = record { 0 = interval } })
+timer_due at interval = Timer
+    (record {
+      reset_type = OneShot;
+      signaled = false;
+      fire_at = Some (record { 0 = at });
+      interval = record { 0 = interval };
+    })
 
 -- running since tick 0
 abbrev ready_thread : ℕ → th.Thread
@@ -80,7 +86,8 @@ ready_thread priority = new_thread 0 0 priority 0 0 0
 
 abbrev row : List ℕ → Option ℕ → Bool → List th.Thread
 row ps None running = map ready_thread ps
-row ps (Some c) running = let ts : List th.Thread = map ready_thread ps in set ts c (with_status (thread_at ts c) (pick running Running Ready))
+row ps (Some c) running = let ts : List th.Thread = map ready_thread ps
+    in set ts c (with_status (thread_at ts c) (pick running Running Ready))
 
 -- thread 0 runs, and the handle 0x10000 names a semaphore
 abbrev state_of : ℕ → Kernel

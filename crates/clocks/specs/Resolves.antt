@@ -1,5 +1,6 @@
 -- A handle that is resolved and an object that is made leave the clock of every object in use; timers that are fired first move it.
-use Rattle.std.specs.Prelude.{◌≡◌, Bool, ◌≢◌, ◌⊎◌, List, [], ◌∷◌, ℕ, suc, ◌<◌, eqb, length, set, get_or, Option, Some, None}
+use Rattle.std.specs.Prelude.{◌≡◌, Bool, ◌≢◌, ◌⊎◌, List, [], ◌∷◌, ℕ, suc, ◌<◌, eqb, length, set, get_or, Option, Some}
+use Rattle.std.specs.Prelude.{None}
 use Rattle.std.proofs.Math.Path.{refl, ap}
 use Rattle.std.proofs.Common.{sym, subst, ◌∙◌, arith, length-set, get_or-set_same, eqb-true}
 use Rattle.std.proofs.Math.Bool.{true, false}

@@ -48,7 +48,8 @@ pub fn put32(b: &mut [u8], at: usize, v: u32)
     b[at..at + 4].copy_from_slice(&v.to_le_bytes());
 }
 
-// v into the eight bytes from at.
+// v into the eight bytes from at. Beside `put32`, as `get64` beside `get32`: one over the type of the number would need
+// a trait with its bytes and their law for two types, and be longer than both.
 #[tactic(auto, unfolding(crate::specs::Bytes::bytes))]
 pub fn put64(b: &mut [u8], at: usize, v: u64)
     requires { at + 8 ≤ length b.old }

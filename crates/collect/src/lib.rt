@@ -1,5 +1,5 @@
 // Collect, over what is lent.
-#![tactic(auto)]
+#![tactic(auto, using(crate::proofs::Absent::reads))]
 
 pub mod results;
 
@@ -12,7 +12,7 @@ ghost use Rattle.lent.specs.Guest as def;
 
 use codec::Two;
 use lent::questions;
-use types::refusal::Refusal;
+use types::refusal::{self, Refusal};
 use types::thread::{WaitResult, WaitSyscall};
 
 // The result, its index, and the kind of the call that waited.
@@ -26,8 +26,10 @@ fn put_collected(answer: &mut [u8; 12], res: Option<WaitResult>, call: Option<Wa
     codec::put32(answer, 8, kind);
 }
 
+#[tactic(auto, using(lent::proofs::Cases::cases), unfolding(lent::specs::Guest::collect))]
 fn work(block: &mut [u8], answer: &mut [u8]) -> Result<(), Refusal>
-    ensures { back (found_in result) (lent block.new [] [] [] answer.new) ≡ def.collect (lent block.old [] [] [] answer.old) }
+    ensures { back (found_in result) (lent block.new [] [] [] answer.new)
+        ≡ def.collect (lent block.old [] [] [] answer.old) }
 {
     let Some(block) = block.as_mut_array::<16384>() else {
         return Err(Refusal::Length);
@@ -51,12 +53,9 @@ fn work(block: &mut [u8], answer: &mut [u8]) -> Result<(), Refusal>
     Ok(())
 }
 
-// The work as C gets it: 0, or the number of the refusal.
+// The work as C gets it.
 pub fn operate(block: &mut [u8], answer: &mut [u8]) -> u32
     ensures { back result (lent block.new [] [] [] answer.new) ≡ def.collect (lent block.old [] [] [] answer.old) }
 {
-    match work(block, answer) {
-        Ok(()) => 0,
-        Err(r) => u32::from(r),
-    }
+    refusal::number(work(block, answer))
 }

@@ -12,7 +12,8 @@ use block::Block;
 use rows::{read, write};
 use types::thread::{WaitResult, WaitSyscall};
 
-// A number past the places names no thread.
+// A number past the places names no thread. `syscall_at` reads the other field: no function gives the thread itself, since
+// the definitions' thread of such a number has an empty list, which no value has.
 fn result_at(block: &Block, c: u32) -> Option<WaitResult>
     ensures { result ≡ (thread_at (dec_block block.now).threads c).wait_result }
 {
@@ -26,12 +27,10 @@ fn result_at(block: &Block, c: u32) -> Option<WaitResult>
 fn result_as(current: Option<u32>, block: &Block) -> Option<WaitResult>
     ensures { result ≡ def.result_as current (dec_block block.now) }
 {
-    match current {
-        None => None,
-        Some(c) => result_at(block, c),
-    }
+    result_at(block, current?)
 }
 
+#[tactic(auto, unfolding(svc::specs::Collect::collected_result))]
 pub fn collected_result(block: &Block) -> Option<WaitResult>
     ensures { result ≡ def.collected_result (dec_block block.now) }
 {
@@ -52,12 +51,10 @@ fn syscall_at(block: &Block, c: u32) -> Option<WaitSyscall>
 fn syscall_as(current: Option<u32>, block: &Block) -> Option<WaitSyscall>
     ensures { result ≡ def.syscall_as current (dec_block block.now) }
 {
-    match current {
-        None => None,
-        Some(c) => syscall_at(block, c),
-    }
+    syscall_at(block, current?)
 }
 
+#[tactic(auto, unfolding(svc::specs::Collect::collected_syscall))]
 pub fn collected_syscall(block: &Block) -> Option<WaitSyscall>
     ensures { result ≡ def.collected_syscall (dec_block block.now) }
 {
@@ -85,6 +82,7 @@ fn collect_as(current: Option<u32>, block: &mut Block)
     }
 }
 
+#[tactic(auto, unfolding(svc::specs::Collect::collect))]
 pub fn collect(block: &mut Block)
     requires block_value { sound? block.old ≡ true }
     ensures { Holds block.new (def.collect (dec_block block.old)) }

@@ -1,6 +1,7 @@
 -- 0x22: kind 0 wakes threads that are parked at the address, the others park the current thread.
 use Rattle.units.specs.declared.Ticks.{Ticks}
-use Rattle.std.specs.Prelude.{◌≡◌, refl, Bool, true, false, not, cond, ◌≢◌, ℕ, zero, suc, ◌+◌, ◌<◌, eqb, ltb, length, Option, Some, None}
+use Rattle.std.specs.Prelude.{◌≡◌, refl, Bool, true, false, not, cond, ◌≢◌, ℕ, zero, suc, ◌+◌, ◌<◌, eqb, ltb, length}
+use Rattle.std.specs.Prelude.{Option, Some, None}
 use Rattle.std.proofs.Common.{ap, sym, subst, ◌∙◌, inl, inr, arith}
 use mathlib.Core.List.{List, [], ◌∷◌, ◌++◌}
 use Rattle.laws.specs.Logic.{pick, pick_yes, pick_no, ◌and◌, ◌or◌, and-true, true-and, false-true}

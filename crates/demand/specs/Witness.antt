@@ -1,6 +1,7 @@
 -- The premises of demand 3 can be met, and each outcome that it speaks of occurs: operations one after the other from a fresh start, computed by the definitions.
 use Rattle.units.specs.declared.Ticks.{Ticks}
-use Rattle.std.specs.Prelude.{◌≡◌, Bool, true, false, not, ◌⊎◌, List, [], ◌∷◌, ℕ, zero, suc, ◌+◌, ◌*◌, ◌<◌, eqb, ltb, Option, None}
+use Rattle.std.specs.Prelude.{◌≡◌, Bool, true, false, not, ◌⊎◌, List, [], ◌∷◌, ℕ, zero, suc, ◌+◌, ◌*◌, ◌<◌, eqb, ltb}
+use Rattle.std.specs.Prelude.{Option, None}
 use Rattle.laws.specs.Logic.{◌and◌, ◌or◌}
 use Rattle.types.specs.declared.thread.Thread.{Thread}
 use Rattle.types.specs.declared.kernel.Kernel.{Kernel}

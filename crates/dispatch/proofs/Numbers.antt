@@ -6,7 +6,8 @@ use mathlib.Core.List.{List}
 use Prim.Native.Nat.{ℕ}
 use lib.Dec.{eqb}
 use borrow.Author.Tests.{ne_eqb}
-use Rattle.laws.specs.Logic.{pick}
+use Rattle.std.proofs.lemmas.Grind.{common_steps}
+use Rattle.laws.specs.Logic.{pick, pick_yes, pick_no}
 use Rattle.types.specs.declared.kernel.Kernel.{Kernel}
 use Rattle.block.specs.Block.{enc_block, dec_block}
 use Rattle.sound.specs.Question.{sound?}
@@ -33,3 +34,5 @@ silent-left b s = go (eqb (finding (dec_block b)) 0)
     go : (t : Bool) → b ≡ pick t (enc_block (dec_block b)) b
     go true = (holds b s).same
     go false = refl
+
+pub ruleset calls = (common_steps, pick_yes, pick_no, silent-left)

@@ -21,7 +21,10 @@ fn no_call(block: &Block) -> Result<Outcome, Refusal>
     Ok(outcome::silent())
 }
 
-// The call, on the first n words, which it reads.
+// The call, on the first n words, which it reads. An array and a count, not a slice: its type says that there are no
+// more than twelve, which each function that a slice is handed to would have to ask for. Calls are told by their numbers,
+// as the guest tells them: of one that is no call's something is promised too.
+#[tactic(auto, using(crate::proofs::Numbers::calls), unfolding(svc::specs::Dispatch::call))]
 pub fn call(
     block: &mut Block,
     number: u32,

@@ -33,7 +33,9 @@ pub fn timer_due(b: &Block, tick: Ticks) -> bool
     false
 }
 
-// Whether the count of periods of a timer that is due does not fit. A timer that is not due costs no division.
+// Whether the count of periods of a timer that is due does not fit. A timer that is not due costs no division. With the
+// question to each slot as a closure, the contract of one function for this and `timer_due` would have to say what the
+// closure answers of every slot.
 pub fn over(b: &Block, tick: Ticks) -> bool
     ensures { result ≡ (caught_up (dec_block b.now) tick.0).objects.overflow }
 {
@@ -56,6 +58,7 @@ fn mark_lists(m: &mut [u32; 129], b: &Block)
 }
 
 // Whether catching up may change the slot: a pulse waits for a pass, or a timer is due.
+#[tactic(auto, using(laws::specs::Logic::or_yes, laws::specs::Logic::or_no))]
 pub fn may_change(s: Slot, tick: Ticks) -> bool
     ensures { result ≡ (s.pulsed or due_by (due_of s.object) tick.0) }
 {

@@ -10,7 +10,7 @@ ghost use Rattle.lent.specs.Operations.{end_refusal, end_thread};
 use block::Block;
 use lent::questions;
 use rows::read;
-use types::refusal::Refusal;
+use types::refusal::{self, Refusal};
 
 // The thread exists and is not Dead. A number past the places reads as a Dead thread.
 fn end_refusal(block: &Block, t: u32) -> Result<(), Refusal>
@@ -26,6 +26,7 @@ fn end_refusal(block: &Block, t: u32) -> Result<(), Refusal>
 }
 
 // A thread ends at the host's wish.
+#[tactic(auto, using(lent::proofs::Cases::cases), unfolding(lent::specs::Operations::end_thread))]
 fn work(block: &mut [u8], id: u32) -> Result<(), Refusal>
     ensures { back (found_in result) (lent block.new [] [] [] []) ≡ end_thread id (lent block.old [] [] [] []) }
 {
@@ -40,12 +41,9 @@ fn work(block: &mut [u8], id: u32) -> Result<(), Refusal>
     Ok(())
 }
 
-// The work as C gets it: 0, or the number of the refusal.
+// The work as C gets it.
 pub fn operate(block: &mut [u8], id: u32) -> u32
     ensures { back result (lent block.new [] [] [] []) ≡ end_thread id (lent block.old [] [] [] []) }
 {
-    match work(block, id) {
-        Ok(()) => 0,
-        Err(r) => u32::from(r),
-    }
+    refusal::number(work(block, id))
 }

@@ -6,6 +6,9 @@ use mathlib.Core.Bool.{Bool, false}
 use mathlib.Core.List.{List}
 use Prim.Native.Nat.{ℕ, ◌≤◌}
 use lib.ListN.{take}
+use Rattle.std.proofs.lemmas.Grind.{common_steps}
+use borrow.Author.Tests.{ne_eqb}
+use Rattle.types.specs.Refusal.{refusal-some}
 use Rattle.laws.specs.Logic.{pick, ◌or◌}
 use Rattle.types.specs.declared.thread.Thread.{Thread}
 use Rattle.types.specs.declared.object.KObject.{KObject}
@@ -15,7 +18,6 @@ use Rattle.types.specs.declared.kernel.Kernel.{Kernel}
 use Rattle.types.specs.Object.{kind_number}
 use Rattle.types.specs.Thread.{option_flag, option_value}
 use Rattle.block.specs.declared.Head.{Head}
-use Rattle.block.specs.Thread.{four}
 use Rattle.block.specs.Block.{head_words, dec_block}
 use Rattle.sound.specs.View.{ids, no_thread, thread_at}
 use Rattle.object.specs.Slots.{with_object}
@@ -28,6 +30,7 @@ use Rattle.lent.specs.Operations.{finding, out_of_handles?}
 use Rattle.rows.specs.Rows.{thread_put, head_put}
 use Rattle.rows.specs.Holds.{Holds, put-thread, put-head}
 use Rattle.rows.specs.Slots.{SlotsTo, slots-each}
+use Rattle.release.specs.Encoded.{sound-encoded}
 use Rattle.outcome.specs.Findings.{found_of}
 
 -- ---- mutexes given back; only a mutex changes
@@ -59,7 +62,7 @@ module _ (e : List ℕ) (k q : Kernel) (t : ℕ) where
   old = thread_at k.threads t
 
   abbrev head_ended : Head → Option ℕ → Head
-  head_ended h c = record { a = four h.a.0 h.a.1 (option_flag c) (option_value c); b = h.b; c = h.c; d = h.d }
+  head_ended h c = record h { current_flag = option_flag c; current_value = option_value c }
 
   abbrev let_go : Kernel
   let_go = with_threads k k.threads (releases k.objects (take old.wait_count (ids old.wait_objects)))
@@ -87,3 +90,7 @@ end-finding b t =
     let k = dec_block b in
     let l = take (thread_at k.threads t).wait_count (ids (thread_at k.threads t).wait_objects) in
     parts _ _ _ (releases-full k.objects l) (releases-overflow k.objects l)
+
+pub ruleset ends = (common_steps, sound-encoded)
+
+pub ruleset ended_found = (common_steps, ne_eqb, refusal-some, end-finding)

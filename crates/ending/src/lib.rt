@@ -5,7 +5,6 @@ ghost use Rattle.std.specs.Prelude.{◌≡◌, true, ◌<◌, eqb};
 ghost use Rattle.laws.specs.Logic.{pick};
 ghost use Rattle.types.specs.Refusal.{found_in, unless_found};
 ghost use Rattle.types.specs.Thread.{option_flag, option_value};
-ghost use Rattle.block.specs.Thread.{four};
 ghost use Rattle.block.specs.Block.{enc_block, dec_block};
 ghost use Rattle.sound.specs.Question.{sound?};
 ghost use Rattle.thread.specs.Threads as def;
@@ -14,9 +13,9 @@ ghost use Rattle.rows.specs.Holds.{Holds};
 ghost use Rattle.release.specs.Encoded.{Encoded};
 
 use block::{Block, Head, record};
-use codec::Four;
 use rows::{read, write};
 use thread::end;
+use types::list;
 use types::refusal::Refusal;
 use units::ObjectId;
 
@@ -35,21 +34,19 @@ fn disown(block: &mut Block, t: u32)
 }
 
 // The head with another current thread.
+#[tactic(auto, using(crate::proofs::Ended::ends))]
 fn new_head(h: Head, current: Option<u32>) -> Head
-    ensures { result ≡ (record { a = four h.a.0 h.a.1 (option_flag current) (option_value current); b = h.b; c = h.c; d = h.d }) }
+    ensures { result ≡ (record h { current_flag = option_flag current; current_value = option_value current }) }
 {
     Head {
-        a: Four(
-            h.a.0,
-            h.a.1,
-            types::thread::option_flag(current),
-            types::thread::option_value(current),
-        ),
+        current_flag: types::thread::option_flag(current),
+        current_value: types::thread::option_value(current),
         ..h
     }
 }
 
 // The objects of the thread's wait are let go before its record is written, which has their list.
+#[tactic(auto, using(crate::proofs::Ended::ends))]
 pub fn put_ended(block: &mut Block, t: u32)
     requires block_value { sound? block.old ≡ true }
     requires t_bound { t < 32 }
@@ -57,7 +54,7 @@ pub fn put_ended(block: &mut Block, t: u32)
 {
     let x = read::thread_at(block, t);
     let current = end::left_by(read::current(block), t);
-    release::release_list(block, release::first_of(&x.wait_objects, x.wait_count));
+    release::release_list(block, list::first(&x.wait_objects, x.wait_count));
     let head = block::get_head(block);
     disown(block, t);
     write::put_thread(block, t, end::ended(x));
@@ -65,11 +62,13 @@ pub fn put_ended(block: &mut Block, t: u32)
 }
 
 // If it is refused the block stays as it is.
+#[tactic(auto, using(crate::proofs::Ended::ended_found))]
 pub fn end_thread(block: &mut Block, t: u32) -> Result<(), Refusal>
     requires block_value { sound? block.old ≡ true }
     requires t_bound { t < 32 }
     ensures value { result ≡ unless_found (finding (def.end_thread (dec_block block.old) t)) tt }
-    ensures block_after { block.new ≡ pick (eqb (found_in result) 0) (enc_block (def.end_thread (dec_block block.old) t)) block.old }
+    ensures block_after { block.new
+        ≡ pick (eqb (found_in result) 0) (enc_block (def.end_thread (dec_block block.old) t)) block.old }
 {
     outcome::room(false, outcome::out_of_handles(block))?;
     put_ended(block, t);

@@ -85,19 +85,23 @@ timer_as (AddressArbiter x) k o a b tick = refl
 timer_as Process k o a b tick = refl
 timer_as ResourceLimit k o a b tick = refl
 
-unless : (k : Kernel) (c : ℕ) (os : List ℕ) (all : Bool) (nanos tick : ℕ) (s : Option WaitSyscall) → Wordless (waits.wait_unless k c os all nanos tick s)
+unless : (k : Kernel) (c : ℕ) (os : List ℕ) (all : Bool) (nanos tick : ℕ) (s : Option WaitSyscall)
+    → Wordless (waits.wait_unless k c os all nanos tick s)
 unless k c os all nanos tick s = either (eqb nanos 0) _ _ refl refl
 
 wait1-as : (c : Option ℕ) (k : Kernel) (o nanos tick : ℕ) → Wordless (waits.wait1_as c k o nanos tick)
 wait1-as None k o nanos tick = refl
 wait1-as (Some c) k o nanos tick =
-    either (is_signaled k.threads (object_at k.objects o) c) _ _ refl (unless k c (o ∷ []) false nanos tick (Some WaitSynchronization1))
+    either (is_signaled k.threads (object_at k.objects o) c) _ _ refl
+    (unless k c (o ∷ []) false nanos tick (Some WaitSynchronization1))
 
-take_at_lem : (i : Option ℕ) (k : Kernel) (c : ℕ) (os : List ℕ) (all : Bool) (nanos tick : ℕ) → Wordless (waits.take_at i k c os all nanos tick)
+take_at_lem : (i : Option ℕ) (k : Kernel) (c : ℕ) (os : List ℕ) (all : Bool) (nanos tick : ℕ)
+    → Wordless (waits.take_at i k c os all nanos tick)
 take_at_lem None k c os all nanos tick = unless k c os all nanos tick (Some WaitSynchronizationN)
 take_at_lem (Some i) k c os all nanos tick = refl
 
-wait_n_as : (c : Option ℕ) (k : Kernel) (os : List ℕ) (all : Bool) (nanos tick : ℕ) → Wordless (waits.wait_nas c k os all nanos tick)
+wait_n_as : (c : Option ℕ) (k : Kernel) (os : List ℕ) (all : Bool) (nanos tick : ℕ)
+    → Wordless (waits.wait_nas c k os all nanos tick)
 wait_n_as None k os all nanos tick = refl
 wait_n_as (Some c) k os all nanos tick = take_at_lem (satisfied_at k.threads k.objects c all os) k c os all nanos tick
 
@@ -206,7 +210,8 @@ module _ (n : ℕ) (k : Kernel) (r : Registers) (words : List ℕ) (tick : ℕ) 
       (either (eqb n 0x0A) _ _ refl
       (either (eqb n 0x0C) _ _ (sets-priority k r tick) locks_none)))
 
-pub word_none : (n : ℕ) (k : Kernel) (r : Registers) (words : List ℕ) (tick : ℕ) → words_read n r ≡ 0 → (call n k r words tick).word ≡ None
+pub word_none : (n : ℕ) (k : Kernel) (r : Registers) (words : List ℕ) (tick : ℕ) → words_read n r ≡ 0
+    → (call n k r words tick).word ≡ None
 word_none n k r words tick e = call_none n k r words tick quiet
   where
     quiet : eqb n 0x22 ≡ true → Wordless (arbiter.arbitrate_address k r (get_or words 0 0) tick)

@@ -16,6 +16,7 @@ pub struct Made {
 }
 
 // Looked up before the call, which changes the block.
+#[tactic(auto, using(laws::specs::Logic::pick_yes, laws::specs::Logic::pick_no), unfolding(block::specs::Block::dec_block, codec::specs::Layout::dec_as))]
 pub fn made_by(block: &Block, number: u32) -> Option<Made>
     ensures { result ≡ made_by number (dec_block block.now) }
 {

@@ -11,6 +11,7 @@ use svc::Registers;
 use types::thread::WAIT_LIST;
 
 // Question 1 of the window.
+#[tactic(auto, using(laws::specs::Logic::and_yes, laws::specs::Logic::and_no))]
 pub fn window_ok(base: u32, window: &[u8]) -> bool
     ensures { result ≡ def.window_ok base window.now }
 {

@@ -11,8 +11,13 @@ use Rattle.svc.specs.declared.Served.{Served}
 use Rattle.svc.specs.Threads as svc
 use Rattle.svc.specs.Dispatch.{call}
 
-made : (k : Kernel) (r : Registers) (rest : Served) (b : Bool) → (pick b (svc.create_thread k r) rest).kernel.full ≡ false
-    → IfSome (pick b (Some (record { id = thread.ended_thread k; tls = thread.tls_slot k; status_word = k.status_word })) None) (λ (m : Made). m.id < 32)
+made : (k : Kernel) (r : Registers) (rest : Served) (b : Bool)
+    → (pick b (svc.create_thread k r) rest).kernel.full ≡ false
+    → IfSome (pick b (Some (record {
+      id = thread.ended_thread k;
+      tls = thread.tls_slot k;
+      status_word = k.status_word;
+    })) None) (λ (m : Made). m.id < 32)
 unfolding svc.create_thread thread.create_thread
 made k r rest true e = leb-false 32 (thread.ended_thread k) (or-false k.full (leb 32 (thread.ended_thread k)) e).1
 made k r rest false e = tt

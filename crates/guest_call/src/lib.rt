@@ -14,6 +14,7 @@ use types::refusal::Refusal;
 use units::Ticks;
 
 // The call's own answer, or why it is refused.
+#[tactic(auto, using(lent::proofs::Cases::cases), unfolding(lent::specs::Guest::dispatch))]
 fn work(
     block: &mut Block,
     bank: &mut Bank,
@@ -23,7 +24,8 @@ fn work(
     number: u32,
     tick: Ticks,
 ) -> Result<u32, Refusal>
-    ensures { back (answered result) (lent block.new bank.new processor.new window.new []) ≡ def.dispatch window_base number tick.0 (lent block.old bank.old processor.old window.old []) }
+    ensures { back (answered result) (lent block.new bank.new processor.new window.new [])
+        ≡ def.dispatch window_base number tick.0 (lent block.old bank.old processor.old window.old []) }
 {
     if !window::window_ok(window_base, window) {
         return Err(Refusal::Length);
@@ -43,6 +45,32 @@ fn work(
     Ok(o.answer)
 }
 
+// The work on slices of any length: one that is not as long as it should be is refused.
+#[tactic(auto, using(lent::proofs::Cases::cases), unfolding(lent::specs::Guest::dispatch))]
+fn with_lengths(
+    block: &mut [u8],
+    bank: &mut [u8],
+    processor: &mut [u8],
+    window: &mut [u8],
+    window_base: u32,
+    number: u32,
+    tick: Ticks,
+) -> Result<u32, Refusal>
+    ensures { back (answered result) (lent block.new bank.new processor.new window.new [])
+        ≡ def.dispatch window_base number tick.0 (lent block.old bank.old processor.old window.old []) }
+{
+    let Some(block) = block.as_mut_array::<16384>() else {
+        return Err(Refusal::Length);
+    };
+    let Some(bank) = bank.as_mut_array::<6656>() else {
+        return Err(Refusal::Length);
+    };
+    let Some(processor) = processor.as_mut_array::<208>() else {
+        return Err(Refusal::Length);
+    };
+    work(block, bank, processor, window, window_base, number, tick)
+}
+
 // The answer is the call's: 0, 16, 17 or 18.
 pub fn operate(
     block: &mut [u8],
@@ -53,18 +81,10 @@ pub fn operate(
     number: u32,
     tick: Ticks,
 ) -> u32
-    ensures { back result (lent block.new bank.new processor.new window.new []) ≡ def.dispatch window_base number tick.0 (lent block.old bank.old processor.old window.old []) }
+    ensures { back result (lent block.new bank.new processor.new window.new [])
+        ≡ def.dispatch window_base number tick.0 (lent block.old bank.old processor.old window.old []) }
 {
-    let Some(block) = block.as_mut_array::<16384>() else {
-        return 1;
-    };
-    let Some(bank) = bank.as_mut_array::<6656>() else {
-        return 1;
-    };
-    let Some(processor) = processor.as_mut_array::<208>() else {
-        return 1;
-    };
-    match work(block, bank, processor, window, window_base, number, tick) {
+    match with_lengths(block, bank, processor, window, window_base, number, tick) {
         Ok(answer) => answer,
         Err(refusal) => u32::from(refusal),
     }

@@ -1,4 +1,5 @@
 -- An entry taken out of the handles of a block, those after it moved up one by one. Assumes nothing.
+use Rattle.std.proofs.lemmas.Grind.{common_steps}
 use mathlib.Core.Path.{◌≡◌, refl, sym, ap, subst, ◌∙◌}
 use mathlib.Core.List.{List, ◌++◌}
 use Prim.Native.Nat.{ℕ, ◌+◌, ◌-◌, ◌*◌, ◌<◌}
@@ -11,7 +12,6 @@ use Rattle.types.specs.declared.kernel.Kernel.{Kernel}
 use Rattle.block.specs.declared.Head.{Head}
 use Rattle.block.specs.Table.{dec_entry}
 use Rattle.block.specs.Tables.{row_at}
-use Rattle.block.specs.Thread.{four}
 use Rattle.block.specs.Block.{head_words, dec_block}
 use Rattle.block.proofs.Fits.{EntryFits, StateFits}
 use Rattle.object.specs.Handles.{no_entry, without, taken_out}
@@ -92,6 +92,8 @@ pub remove-none : (b : List ℕ) → Encoded b → (p : ℕ) → Removing (dec_b
 remove-none b e p = record { encoded = e; state = refl; goal = without_split (dec_block b).handles.entries p }
 
 -- one handle fewer; e is the block with the entry taken out
-pub taken_out_lem : (e : List ℕ) (k : Kernel) (p : ℕ) → Holds e (with_table k (with_entries k.handles (without k.handles.entries p))) → (h : Head) → h ≡ head_words k → (n : ℕ) → n ≡ h.c.2 - 1
-    → Holds (head_put e (record { a = h.a; b = h.b; c = four h.c.0 h.c.1 n h.c.3; d = h.d })) (with_table k (taken_out k.handles p))
+pub taken_out_lem : (e : List ℕ) (k : Kernel) (p : ℕ) → Holds e (with_table k (with_entries k.handles (without k.handles.entries p))) → (h : Head) → h ≡ head_words k → (n : ℕ) → n ≡ h.handle_count - 1
+    → Holds (head_put e (record h { handle_count = n })) (with_table k (taken_out k.handles p))
 taken_out_lem e k p g h eh n en = rw (en, eh) (put-head g (with_table k (taken_out k.handles p)) refl refl refl refl refl)
+
+pub ruleset removes = (common_steps, entry-is, remove-none, remove-more)

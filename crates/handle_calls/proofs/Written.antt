@@ -1,12 +1,16 @@
 -- A block that holds a state, after a handle more and after a handle less. Assumes nothing.
+use Rattle.std.proofs.lemmas.Grind.{common_steps}
+use Rattle.rows.specs.Place.{index_some, index_none}
+use Rattle.release.specs.Encoded.{sound-encoded}
+use Rattle.handle_calls.proofs.Removed.{entry-is}
 use mathlib.Core.Path.{◌≡◌, refl, ap, ◌∙◌}
 use mathlib.Core.Logic.{◌≢◌}
 use mathlib.Core.Bool.{Bool, true, false}
 use mathlib.Core.List.{List}
-use Prim.Native.Nat.{ℕ, ◌+◌, ◌≤◌, ◌<◌}
+use Prim.Native.Nat.{ℕ, ◌≤◌}
 use lib.Dec.{leb, eqb}
 use lib.ListN.{length, get_or, get_or-eq_default}
-use borrow.Author.Tests.{lt-ltb, eq-eqb, ne_eqb}
+use borrow.Author.Tests.{eq-eqb, ne_eqb}
 use Rattle.laws.specs.Logic.{pick}
 use Rattle.units.specs.declared.ObjectId.{ObjectId}
 use Rattle.types.specs.declared.object.Slot.{Slot}
@@ -15,7 +19,6 @@ use Rattle.types.specs.declared.object.HandleEntry.{HandleEntry}
 use Rattle.types.specs.declared.object.HandleTable.{HandleTable}
 use Rattle.types.specs.declared.kernel.Kernel.{Kernel}
 use Rattle.block.specs.declared.Head.{Head}
-use Rattle.block.specs.Thread.{four}
 use Rattle.block.specs.Block.{head_words}
 use Rattle.sound.specs.View.{slot_at, object_at}
 use Rattle.object.specs.Held.{held}
@@ -26,29 +29,26 @@ use Rattle.object.specs.Handles.{no_entry, give, close, object_of, place_of, tak
 use Rattle.thread.specs.Threads.{with_threads}
 use Rattle.object.proofs.Laws.{add-ref-held}
 use Rattle.svc.specs.Call.{with_handles}
-use Rattle.rows.specs.Rows.{slot_put, entry_put, head_put}
-use Rattle.rows.specs.Holds.{Holds, with_table, put-slot, put-entry, put-head}
+use Rattle.rows.specs.Rows.{slot_put, entry_put, head_put, entry_given, head_given}
+use Rattle.rows.specs.Holds.{Holds, holds, with_table, put-slot, put-entry, put-head}
 
 -- ---- a handle more
 module _ (b : List ℕ) (k : Kernel) (g : Holds b k) (o : ObjectId) where
   abbrev more : Kernel
   more = with_handles k (give k.handles o.0) (add_ref k.objects o.0)
 
-  head_more : k.handles.count < 256 → k.handles.next.0 < 0xFFFF8000
-      → record { a = (head_words k).a; b = (head_words k).b; c = four k.objects.free k.objects.free_waiter (k.handles.count + 1) (k.handles.next.0 + 1); d = (head_words k).d } ≡ head_words more
-  unfolding give
-  head_more n h = rw (add-ref-held k.objects o.0, lt-ltb k.handles.count 256 n, lt-ltb k.handles.next.0 0xFFFF8000 h)
+  abbrev with_handle : Head → Slot → List ℕ
+  with_handle h x = head_put (entry_put (slot_put b o.0 x) h.handle_count (entry_given h o)) (head_given h)
 
-  in_tables : Holds (head_put (entry_put (slot_put b o.0 (held (slot_at k.objects.slots o.0))) k.handles.count (record { handle = record { 0 = k.handles.next.0 }; object = o })) (head_words more)) more
+  in_tables : Holds (with_handle (head_words k) (held (slot_at k.objects.slots o.0))) more
   unfolding give
   in_tables =
       rw (add-ref-held k.objects o.0)
-      (put-head (put-entry (put-slot g o.0 (held (slot_at k.objects.slots o.0))) k.handles.count (record { handle = record { 0 = k.handles.next.0 }; object = o }))
+      (put-head (put-entry (put-slot g o.0 (held (slot_at k.objects.slots o.0))) k.handles.count (entry_given (head_words k) o))
       (with_handles k (give k.handles o.0) (with_slots k.objects _)) refl refl refl refl refl)
 
-  pub duplicated : (h : Head) → h ≡ head_words k → (x : Slot) → x ≡ held (slot_at k.objects.slots o.0) → k.handles.count < 256 → k.handles.next.0 < 0xFFFF8000
-      → Holds (head_put (entry_put (slot_put b o.0 x) h.c.2 (record { handle = record { 0 = h.c.3 }; object = o })) (record { a = h.a; b = h.b; c = four h.c.0 h.c.1 (h.c.2 + 1) (h.c.3 + 1); d = h.d })) more
-  duplicated h e x f l m = rw (f, e, head_more l m) in_tables
+  pub duplicated : (h : Head) → h ≡ head_words k → (x : Slot) → x ≡ held (slot_at k.objects.slots o.0) → Holds (with_handle h x) more
+  duplicated h e x f = rw (f, e) in_tables
 
 -- ---- a handle less
 -- what a release leaves as it was
@@ -109,3 +109,16 @@ no_place t h i e n = ap (λ (y : HandleEntry). y.object.0) (get_or-eq_default t.
 pub at_place : (t : HandleTable) (h i : ℕ) → i ≡ place_of t.entries h → (get_or t.entries i no_entry).object.0 ≡ object_of t h
 unfolding object_of
 at_place t h i e = rw e
+
+pub ruleset closes = (
+  common_steps,
+  index_some,
+  index_none,
+  entry-is,
+  no_place,
+  at_place,
+  holds,
+  sound-encoded,
+  closed_none,
+  closed_some,
+)

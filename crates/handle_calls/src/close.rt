@@ -10,7 +10,6 @@ ghost use Rattle.rows.specs.Holds.{Holds, with_table, with_entries};
 ghost use Rattle.outcome.specs.Outcome.{outcome, left};
 
 use block::{Block, Head, record};
-use codec::Four;
 use outcome::Outcome;
 use rows::{read, write};
 use svc::Registers;
@@ -19,6 +18,7 @@ use types::refusal::Refusal;
 use units::{Handle, ObjectId};
 
 // The entry at place i is taken out, and those after it move up.
+#[tactic(auto, using(crate::proofs::Removed::removes))]
 fn remove_entry(block: &mut Block, i: usize)
     requires encoded { Encoded block.old }
     requires i_bound { i < 256 }
@@ -29,14 +29,7 @@ fn remove_entry(block: &mut Block, i: usize)
         let e = record::entry_at(block, j + 1);
         write::put_entry(block, j as u32, e);
     }
-    write::put_entry(
-        block,
-        255,
-        HandleEntry {
-            handle: Handle(0),
-            object: ObjectId(0),
-        },
-    );
+    write::put_entry(block, 255, HandleEntry::default());
 }
 
 // One handle fewer.
@@ -47,12 +40,18 @@ fn take_out(block: &mut Block, i: usize)
 {
     let head = block::get_head(block);
     remove_entry(block, i);
-    let c = Four(head.c.0, head.c.1, head.c.2.saturating_sub(1), head.c.3);
-    write::put_head(block, Head { c, ..head });
+    write::put_head(
+        block,
+        Head {
+            handle_count: head.handle_count.saturating_sub(1),
+            ..head
+        },
+    );
 }
 
 // The object loses a holder and the handle its entry; an unknown handle has no object. The entry itself is taken out,
 // so it is found by its place and not by resolve, as the Rust's `close` removes it from its map.
+#[tactic(auto, using(crate::proofs::Written::closes))]
 fn put_closed(block: &mut Block, h: Handle)
     requires block_value { sound? block.old ≡ true }
     ensures { Holds block.new (with_handles (dec_block block.old)

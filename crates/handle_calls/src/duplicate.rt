@@ -1,5 +1,5 @@
 // `duplicate_handle`: another handle for the same object.
-ghost use Rattle.std.specs.Prelude.{◌≡◌, true, ◌<◌, ◌+◌, leb, length};
+ghost use Rattle.std.specs.Prelude.{◌≡◌, true, leb};
 ghost use Rattle.block.specs.Block.{dec_block};
 ghost use Rattle.sound.specs.Question.{sound?};
 ghost use Rattle.object.specs.Store.{add_ref};
@@ -11,34 +11,25 @@ ghost use Rattle.outcome.specs.Outcome.{outcome, left};
 ghost use Rattle.outcome.specs.Findings.{found_of};
 ghost use Rattle.types.specs.Refusal.{refusal_number};
 
-use block::{Block, Head};
-use codec::Four;
+use block::Block;
 use objects::open;
 use outcome::{Answer, Outcome};
 use rows::{read, write};
 use svc::Registers;
-use types::object::HandleEntry;
 use types::refusal::Refusal;
 use units::{Handle, ObjectId};
 
-// The handle goes behind the last one, which has room, and the object has one holder more.
+// The handle goes behind the last one, and the object has one holder more.
 fn put_duplicate(block: &mut Block, o: ObjectId)
-    requires block_value { sound? block.old ≡ true }
-    requires block_bound { (dec_block block.old).handles.count < 256 }
-    requires block_bound_2 { (dec_block block.old).handles.next.0 < 0xFFFF8000 }
+    requires { sound? block.old ≡ true }
     ensures { Holds block.new (with_handles (dec_block block.old) (give (dec_block block.old).handles o.0)
         (add_ref (dec_block block.old).objects o.0)) }
 {
     let head = block::get_head(block);
     let old = read::slot_at(block, o);
     write::put_slot(block, o, object::store::held(old));
-    let entry = HandleEntry {
-        handle: Handle(head.c.3),
-        object: o,
-    };
-    write::put_entry(block, head.c.2, entry);
-    let c = Four(head.c.0, head.c.1, head.c.2 + 1, head.c.3 + 1);
-    write::put_head(block, Head { c, ..head });
+    let given = write::give(block, head, o);
+    write::put_head(block, given);
 }
 
 // With no room for another handle, which the refusal says, the call is refused or its handle is unknown. The block
@@ -57,7 +48,7 @@ fn without_room(block: &Block, r: Registers, refusal: Refusal) -> Result<Outcome
         return Err(refusal);
     }
     outcome::room(false, outcome::out_of_handles(block))?;
-    Ok(outcome::answers(Answer::UnknownHandle))
+    Ok(Outcome::from(Answer::UnknownHandle))
 }
 
 // r1 handle; r1 gets another.
@@ -73,7 +64,7 @@ pub fn duplicate_handle(block: &mut Block, r: Registers) -> Result<Outcome, Refu
     }
     let o = open::resolve(block, Handle(r.r1))?;
     if o.0 == 0 {
-        return Ok(outcome::answers(Answer::UnknownHandle));
+        return Ok(Outcome::from(Answer::UnknownHandle));
     }
     put_duplicate(block, o);
     Ok(outcome::gives(next))

@@ -1,6 +1,7 @@
 -- `next_event` as it is computed: the objects that blocked threads wait on are marked in an array.
 use Rattle.units.specs.declared.Ticks.{Ticks}
-use Rattle.std.specs.Prelude.{◌≡◌, Bool, true, false, ◌⊎◌, ℕ, zero, suc, ◌+◌, ◌≤◌, ◌<◌, eqb, ltb, length, get_or, replicate, Option}
+use Rattle.std.specs.Prelude.{◌≡◌, Bool, true, false, ◌⊎◌, ℕ, zero, suc, ◌+◌, ◌≤◌, ◌<◌, eqb, ltb, length, get_or}
+use Rattle.std.specs.Prelude.{replicate, Option}
 use Rattle.std.proofs.Math.Path.{refl}
 use Rattle.std.proofs.Common.{ap, sym, ◌∙◌, inl, inr, arith, eqb-true, lt-ltb}
 use mathlib.Core.List.{List, [], ◌∷◌, ◌++◌, map}
@@ -75,7 +76,8 @@ module _ (ts : List Thread) (n : length ts ≡ 32) (a : All (λ l. length l ≤ 
   unfolding waited_on
   marked o h = marks_tell is_blocked waited_on (λ o. refl) (λ t ts o. refl) ts n a o h
 
-  pub due-is : (best : Option Ticks) (o : ℕ) (l : List Slot) → o + length l ≤ 129 → due_marked (tally_all 129 (replicate 129 0) (lists_if ts)) best o l ≡ next_due ts best o l
+  pub due-is : (best : Option Ticks) (o : ℕ) (l : List Slot) → o + length l ≤ 129
+      → due_marked (tally_all 129 (replicate 129 0) (lists_if ts)) best o l ≡ next_due ts best o l
   unfolding due_marked next_due
   due-is best o [] h = refl
   due-is best o (s ∷ ss) h = rw (marked o (omega arith)) (due-is (due_after (waited_on ts o) best s) (suc o) ss (omega arith))

@@ -5,8 +5,8 @@ ghost use Rattle.kernel.specs.Fresh.{free_slot, free_waiter, free_slots, free_wa
 
 use types::kernel::Kernel;
 use types::object::{HandleEntry, HandleTable, KObject, ObjectStore, Slot, Waiter};
-use types::thread::{Thread, ThreadStatus, WAIT_LIST};
-use units::{Handle, ObjectId, Ticks};
+use types::thread::Thread;
+use units::{Handle, ObjectId};
 
 // The number after that of the cell with index i, of n cells; 0 after the last.
 fn next_number(i: usize, n: usize) -> u32
@@ -22,17 +22,17 @@ fn free_slot(next: u32) -> Slot
 {
     Slot {
         object: KObject::Free(next),
-        refcount: 0,
-        pulsed: false,
+        ..Slot::default()
     }
 }
 
 // Beside `free_waiters`, and not one function over the kind of cell: each is one line, and that one would need laws of
 // a closure.
+#[tactic(auto, using(crate::proofs::Rows::row_done), unfolding(crate::specs::Fresh::free_slots))]
 fn free_slots() -> [Slot; 128]
     ensures { result ≡ free_slots }
 {
-    let mut l = [free_slot(0); 128];
+    let mut l = [Slot::default(); 128];
     for i in 0..128 {
         l[i] = free_slot(next_number(i, 128));
     }
@@ -43,16 +43,16 @@ fn free_waiter(next: u32) -> Waiter
     ensures { result ≡ free_waiter next }
 {
     Waiter {
-        thread: 0,
-        address: 0,
         next,
+        ..Waiter::default()
     }
 }
 
+#[tactic(auto, using(crate::proofs::Rows::row_done), unfolding(crate::specs::Fresh::free_waiters))]
 fn free_waiters() -> [Waiter; 64]
     ensures { result ≡ free_waiters }
 {
-    let mut l = [free_waiter(0); 64];
+    let mut l = [Waiter::default(); 64];
     for i in 0..64 {
         l[i] = free_waiter(next_number(i, 64));
     }
@@ -62,24 +62,7 @@ fn free_waiters() -> [Waiter; 64]
 pub fn blank_thread() -> Thread
     ensures { result ≡ blank_thread }
 {
-    Thread {
-        status: ThreadStatus::Dead,
-        priority: 0,
-        entry: 0,
-        stack_top: 0,
-        tls: 0,
-        processor_id: 0,
-        wait_objects: [ObjectId(0); WAIT_LIST],
-        wait_count: 0,
-        wait_all: false,
-        wakeup_at: None,
-        running_since: Ticks(0),
-        waited: false,
-        wait_address: None,
-        wait_result: None,
-        wait_syscall: None,
-        guest_id: 0,
-    }
+    Thread::default()
 }
 
 fn fresh_objects() -> ObjectStore
@@ -90,8 +73,8 @@ fn fresh_objects() -> ObjectStore
         free: 1,
         waiters: free_waiters(),
         free_waiter: 1,
-        thread_objects: [ObjectId(0); 32],
-        process_object: ObjectId(0),
+        thread_objects: [ObjectId::default(); 32],
+        process_object: ObjectId::default(),
         full: false,
         overflow: false,
     }
@@ -100,12 +83,8 @@ fn fresh_objects() -> ObjectStore
 fn fresh_handles() -> HandleTable
     ensures { result ≡ fresh_handles }
 {
-    let none = HandleEntry {
-        handle: Handle(0),
-        object: ObjectId(0),
-    };
     HandleTable {
-        entries: [none; 256],
+        entries: [HandleEntry::default(); 256],
         count: 0,
         next: Handle(0x10000),
         full: false,

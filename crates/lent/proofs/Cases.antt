@@ -4,16 +4,19 @@ use mathlib.Core.Bool.{Bool, true, false}
 use mathlib.Core.List.{List}
 use Prim.Native.Nat.{ℕ, ◌*◌, ◌≤◌, ◌<◌}
 use native.Mathlib.Omega.{arith}
-use lib.Dec.{leb}
+use Rattle.std.proofs.lemmas.Grind.{common_steps}
+use lib.Dec.{leb, eqb}
 use lib.ListN.{length, take, drop, length-drop, get_or-eq_default}
 use lib.Seq.{length-take-le}
 use borrow.Author.Tests.{eq-eqb, ne_eqb, leb-false}
-use Rattle.laws.specs.Logic.{pick, ◌or◌, or-false}
+use Rattle.laws.specs.Logic.{pick, pick_yes, pick_no, ◌and◌, and_no, and_yes, ◌or◌, or-false}
+use Rattle.codec.specs.Bytes.{same}
 use Rattle.types.specs.declared.thread.Thread.{Thread}
 use Rattle.types.specs.declared.kernel.Kernel.{Kernel}
 use Rattle.types.specs.Thread.{is_dead}
-use Rattle.block.specs.Block.{dec_block}
+use Rattle.block.specs.Block.{enc_block, dec_block}
 use Rattle.sound.specs.View.{no_thread, thread_at}
+use Rattle.sound.specs.Sound.{state?}
 use Rattle.sound.specs.Question.{sound?}
 use Rattle.thread.specs.Threads.{create_thread, ended_thread}
 use Rattle.lent.specs.Lent.{Lent, with_answer, Back, back}
@@ -25,30 +28,42 @@ module _ (lengths : Bool) (look : Kernel → List ℕ) (l : Lent) where
   inspect-1 e = rw e
 
   module _ (e : lengths ≡ true) (k : Kernel) (f : k ≡ dec_block l.block) (r : Bool) (g : r ≡ sound? l.block) where
-    pub inspect-2 : r ≡ false → back 2 l ≡ inspect lengths look l
-    unfolding inspect
-    inspect-2 h = rw (e, ← g, h)
-
     module _ (h : r ≡ true) (t : Bool) (q : t ≡ out_of_handles? k) where
-      pub inspect-8 : t ≡ true → back 8 l ≡ inspect lengths look l
-      unfolding inspect
-      inspect-8 z = rw (e, ← g, h, ← f, ← q, z)
-
       pub inspect-0 : t ≡ false → back 0 (with_answer l (look k)) ≡ inspect lengths look l
       unfolding inspect
       inspect-0 z = rw (e, ← g, h, ← f, ← q, z)
 
+-- what it asks, one question after another
+pub inspect-asks : (lengths : Bool) (look : Kernel → List ℕ) (l : Lent)
+    → inspect lengths look l
+    ≡ pick lengths
+    (pick (sound? l.block)
+    (pick (out_of_handles? (dec_block l.block)) (back 8 l) (back 0 (with_answer l (look (dec_block l.block)))))
+    (back 2 l))
+    (back 1 l)
+unfolding inspect
+inspect-asks lengths look l = refl
+
 -- ---- an operation that changes the block
+pub change-asks : (lengths : Bool) (refusal : Kernel → ℕ) (work : Kernel → Kernel) (result : Kernel → Back) (l : Lent)
+    → change lengths refusal work result l
+    ≡ pick lengths
+    (pick (sound? l.block)
+    (pick (eqb (refusal (dec_block l.block)) 0)
+    (pick (eqb (finding (work (dec_block l.block))) 0) (result (dec_block l.block))
+    (back (finding (work (dec_block l.block))) l))
+    (back (refusal (dec_block l.block)) l))
+    (back 2 l))
+    (back 1 l)
+unfolding change
+change-asks lengths refusal work result l = refl
+
 module _ (lengths : Bool) (refusal : Kernel → ℕ) (work : Kernel → Kernel) (result : Kernel → Back) (l : Lent) where
   pub change-1 : lengths ≡ false → back 1 l ≡ change lengths refusal work result l
   unfolding change
   change-1 e = rw e
 
   module _ (e : lengths ≡ true) (k : Kernel) (f : k ≡ dec_block l.block) (r : Bool) (g : r ≡ sound? l.block) where
-    pub change-2 : r ≡ false → back 2 l ≡ change lengths refusal work result l
-    unfolding change
-    change-2 h = rw (e, ← g, h)
-
     module _ (h : r ≡ true) (n : ℕ) (q : n ≡ refusal k) where
       pub change-own : (n ≡ 0 → ⊥) → back n l ≡ change lengths refusal work result l
       unfolding change
@@ -104,3 +119,12 @@ made-place k entry stack priority processor e =
 -- a row of the bank is whole
 pub row-length : (s : List ℕ) (t : ℕ) → length s ≡ 6656 → t < 32 → length (take 208 (drop (t * 208) s)) ≡ 208
 row-length s t e h = length-take-le 208 (drop (t * 208) s) (simp length-drop (omega arith))
+
+-- what question 2 asks
+pub sound-asks : (b : List ℕ) → sound? b ≡ same b (enc_block (dec_block b)) and state? (dec_block b)
+unfolding sound?
+sound-asks b = refl
+
+pub ruleset cases = (common_steps, and_no, and_yes, pick_yes, pick_no, inspect-asks, change-asks)
+
+pub ruleset questions = (common_steps, and_no, and_yes, sound-asks)

@@ -1,6 +1,7 @@
 -- The exported operations: question 1, question 2, their own questions, the work, questions 7 and 8.
 use Rattle.units.specs.declared.Ticks.{Ticks}
-use Rattle.std.specs.Prelude.{Bool, not, List, ◌++◌, ℕ, ◌*◌, ◌/◌, ◌%◌, eqb, ltb, length, replicate, take, drop, Option, Some, None}
+use Rattle.std.specs.Prelude.{Bool, not, List, ◌++◌, ℕ, ◌*◌, ◌/◌, ◌%◌, eqb, ltb, length, replicate, take, drop, Option}
+use Rattle.std.specs.Prelude.{Some, None}
 use Rattle.laws.specs.Logic.{pick, ◌and◌, ◌or◌}
 use Rattle.codec.specs.Bytes.{num, bytes, over}
 use Rattle.codec.specs.Layout.{enc_all, dec_all}

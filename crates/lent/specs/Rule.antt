@@ -1,6 +1,7 @@
 -- The rule of the call table, over the whole table: a call reads no register outside its row's read mask, and no register outside
 -- its written mask changes. Assumes nothing.
-use Rattle.std.specs.Prelude.{◌≡◌, Bool, true, false, List, ◌++◌, ℕ, ◌+◌, ◌≤◌, eqb, length, take, drop, Option, Some, None}
+use Rattle.std.specs.Prelude.{◌≡◌, Bool, true, false, List, ◌++◌, ℕ, ◌+◌, ◌≤◌, eqb, length, take, drop, Option, Some}
+use Rattle.std.specs.Prelude.{None}
 use Rattle.std.proofs.Math.Path.{refl, subst}
 use Rattle.std.proofs.Common.{ap, ◌∙◌, arith, length-drop, drop-drop, length-take-le}
 use Rattle.laws.specs.Logic.{pick, ◌and◌}

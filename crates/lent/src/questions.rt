@@ -6,13 +6,11 @@ use block::Block;
 use units::Handle;
 
 // Question 2: the block is the encoding of what it decodes to, and that is a sound state.
+#[tactic(auto, using(crate::proofs::Cases::questions))]
 pub fn block_ok(b: &Block) -> bool
     ensures { result ≡ sound? b.now }
 {
-    if !canonical::canonical(b) {
-        return false;
-    }
-    question::state_ok(b)
+    canonical::canonical(b) && question::state_ok(b)
 }
 
 // The next handle is past the last that question 8 allows.

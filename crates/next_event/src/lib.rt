@@ -9,7 +9,7 @@ ghost use Rattle.lent.specs.Operations.{tick_bytes, next_event};
 use asked::event;
 use codec::Two;
 use lent::questions;
-use types::refusal::Refusal;
+use types::refusal::{self, Refusal};
 use units::Ticks;
 
 fn put_tick(answer: &mut [u8; 16], at: Option<Ticks>)
@@ -21,9 +21,11 @@ fn put_tick(answer: &mut [u8; 16], at: Option<Ticks>)
     codec::put64(answer, 8, value);
 }
 
-// The same with the refusal itself.
+// What C gets, with the refusal itself.
+#[tactic(auto, using(lent::proofs::Cases::cases), unfolding(lent::specs::Operations::next_event))]
 fn look(block: &[u8], answer: &mut [u8]) -> Result<(), Refusal>
-    ensures { back (found_in result) (lent block.now [] [] [] answer.new) ≡ next_event (lent block.now [] [] [] answer.old) }
+    ensures { back (found_in result) (lent block.now [] [] [] answer.new)
+        ≡ next_event (lent block.now [] [] [] answer.old) }
 {
     let Some(block) = block.as_array::<16384>() else {
         return Err(Refusal::Length);
@@ -45,8 +47,5 @@ fn look(block: &[u8], answer: &mut [u8]) -> Result<(), Refusal>
 pub fn operate(block: &[u8], answer: &mut [u8]) -> u32
     ensures { back result (lent block.now [] [] [] answer.new) ≡ next_event (lent block.now [] [] [] answer.old) }
 {
-    match look(block, answer) {
-        Ok(()) => 0,
-        Err(refusal) => u32::from(refusal),
-    }
+    refusal::number(look(block, answer))
 }

@@ -7,10 +7,12 @@ use Prim.Native.Nat.{ℕ, zero, suc, ◌+◌, ◌-◌, ◌≤◌, ◌<◌}
 use native.Mathlib.Numerals.{add-one}
 use native.Mathlib.Omega.{arith}
 use lib.Dec.{eqb}
-use lib.ListN.{length, get_or, set, take, drop, length-map, length-take, get_or-map, get_or-eq_default, drop_of_length-le, length-set}
-use lib.Seq.{drop-cons, set_out, set-get_or, get_or-take}
+use lib.ListN.{length, get_or, set, take, drop, length-map, get_or-map, get_or-eq_default, drop_of_length-le}
+use lib.ListN.{length-set}
+use lib.Seq.{drop-cons, set_out, set-get_or}
 use borrow.Author.Tests.{eq-eqb, ne_eqb}
-use Rattle.laws.specs.Logic.{pick, ◌and◌, ◌or◌, and-false}
+use Rattle.std.proofs.lemmas.Grind.{common_steps}
+use Rattle.laws.specs.Logic.{pick, pick_yes, pick_no, ◌and◌, ◌or◌, and-false, and_no, and_yes, or_no, or_yes}
 use Rattle.laws.specs.Count.{at}
 use Rattle.laws.specs.Walk.{walk, walk-nil, walk-out, walk-go}
 use Rattle.units.specs.declared.ObjectId.{ObjectId}
@@ -60,21 +62,8 @@ slot-in l o n = go (is_slot o) refl
     go true e = rw (index-slot o e) (sym (slot_at-pos l o (λ z. omega (arith, slot-some o e))))
     go false e = sym (slot_at-out l o (λ h. omega (arith, n, slot-past o e h)))
 
--- ---- a list of objects, first to last
 abbrev no_id : ObjectId
 no_id = record { 0 = 0 }
-
-pub list_at : (l : List ObjectId) (n i : ℕ) → i < n → i < length l → drop i (take n (ids l)) ≡ (get_or l i no_id).0 ∷ drop (i + 1) (take n (ids l))
-list_at l n i h k =
-    let m : i < length (take n (ids l)) = simp (length-take, length-map) (omega arith) in
-    drop-cons (take n (ids l)) i 0 m
-    ∙ rw (get_or-take n (ids l) i 0 h, get_or-map (λ (o : ObjectId). o.0) l i no_id, add-one)
-
-pub list-end : (l : List ObjectId) (n i : ℕ) → n ≤ i → drop i (take n (ids l)) ≡ []
-list-end l n i h = let e : length (take n (ids l)) ≤ i = simp (length-take, length-map) (omega arith) in drop_of_length-le (take n (ids l)) e
-
-pub list_over : (l : List ObjectId) (n i : ℕ) → length l ≤ i → drop i (take n (ids l)) ≡ []
-list_over l n i h = let e : length (take n (ids l)) ≤ i = simp (length-take, length-map) (omega arith) in drop_of_length-le (take n (ids l)) e
 
 -- ---- handles
 module _ (es : List HandleEntry) (h i : ℕ) where
@@ -153,7 +142,7 @@ at_next l r = at-waiters (λ (w : Waiter). w.next) l r refl
 pub at-thread : (l : List Waiter) (r : ℕ) → at (waiter_threads l) r ≡ (waiter_at l r).thread
 at-thread l r = at-waiters (λ (w : Waiter). w.thread) l r refl
 
-at-address : (l : List Waiter) (r : ℕ) → at (waiter_addresses l) r ≡ (waiter_at l r).address
+pub at-address : (l : List Waiter) (r : ℕ) → at (waiter_addresses l) r ≡ (waiter_at l r).address
 at-address l r = at-waiters (λ (w : Waiter). w.address) l r refl
 
 -- ---- the walk of a chain, by the code's cases
@@ -164,26 +153,6 @@ walk-over nx left h (inr w) = walk-out nx left h w.1
 module _ (ws : List Waiter) (left h : ℕ) (p : left ≢ 0) (q : h ≢ 0) where
   pub walk_record : walk (waiter_nexts ws) left h ≡ h ∷ walk (waiter_nexts ws) (left - 1) (waiter_at ws h).next
   walk_record = walk-go (waiter_nexts ws) left h p q ∙ rw (at_next ws h)
-
-  pub unlink-go : (keep : ℕ → Bool) (free : ℕ)
-      → link (keep h) h (unlink keep ws free (walk (waiter_nexts ws) (left - 1) (waiter_at ws h).next)) ≡ unlink keep ws free (walk (waiter_nexts ws) left h)
-  unfolding unlink
-  unlink-go keep free = rw walk_record
-
-  pub last-go : (x : ℕ) → last_of (h ∷ walk (waiter_nexts ws) (left - 1) (waiter_at ws h).next) ≡ last_of (x ∷ walk (waiter_nexts ws) left h)
-  unfolding last_of
-  last-go x = rw walk_record
-
-  module _ (t a : ℕ) where
-    pub has-here : (waiter_at ws h).thread ≡ t → (waiter_at ws h).address ≡ a → true ≡ has? (waiter_threads ws) (waiter_addresses ws) t a (walk (waiter_nexts ws) left h)
-    unfolding has? ◌and◌ ◌or◌
-    has-here e f = rw (walk_record, at-thread ws h, at-address ws h, eq-eqb _ _ e, eq-eqb _ _ f)
-
-    pub has-next : (((waiter_at ws h).thread ≡ t) × ((waiter_at ws h).address ≢ a)) ⊎ ((waiter_at ws h).thread ≢ t)
-        → has? (waiter_threads ws) (waiter_addresses ws) t a (walk (waiter_nexts ws) (left - 1) (waiter_at ws h).next) ≡ has? (waiter_threads ws) (waiter_addresses ws) t a (walk (waiter_nexts ws) left h)
-    unfolding has? ◌and◌ ◌or◌
-    has-next (inl w) = rw (walk_record, at-thread ws h, at-address ws h, ne_eqb _ _ w.1, and-false (eqb (waiter_at ws h).thread t))
-    has-next (inr e) = rw (walk_record, at-thread ws h, ne_eqb _ _ e)
 
 -- nothing in front of a chain
 pub last-zero : (xs : List ℕ) → last_of (0 ∷ xs) ≡ last_of xs
@@ -237,3 +206,68 @@ module _ (s : ObjectStore) (l : List Slot) (ws : List Waiter) (free t i : ℕ) (
   drop-none e =
       sym (drop-turn (with_records s l ws free) t i h
       ∙ rw (walk-nil (waiter_nexts ws) 64 (head_of (get_or l i no_slot).object) e, head-same (get_or l i no_slot).object e, set-get_or l i no_slot))
+
+-- ---- what the search steps by
+pub waiter_at_none : (l : List Waiter) (r : ℕ) → r ≡ 0 → waiter_at l r ≡ no_waiter
+unfolding waiter_at
+waiter_at_none l r e = rw e
+
+pub waiter_put_none : (l : List Waiter) (r : ℕ) (v : Waiter) → r ≡ 0 → waiter_put l r v ≡ l
+unfolding waiter_put
+waiter_put_none l r v e = rw e
+
+pub has_none : (ts ad : List ℕ) (t a : ℕ) → has? ts ad t a [] ≡ false
+unfolding has?
+has_none ts ad t a = refl
+
+pub has_more : (ts ad : List ℕ) (t a x : ℕ) (xs : List ℕ)
+    → has? ts ad t a (x ∷ xs) ≡ (eqb (at ts x) t and eqb (at ad x) a) or has? ts ad t a xs
+unfolding has?
+has_more ts ad t a x xs = refl
+
+pub last_one : (x : ℕ) → last_of (x ∷ []) ≡ x
+unfolding last_of
+last_one x = refl
+
+pub last_more : (x y : ℕ) (ys : List ℕ) → last_of (x ∷ (y ∷ ys)) ≡ last_of (y ∷ ys)
+unfolding last_of
+last_more x y ys = refl
+
+pub unlink_none : (keep : ℕ → Bool) (ws : List Waiter) (free : ℕ)
+    → unlink keep ws free [] ≡ record { waiters = ws; free = free; head = 0 }
+unfolding unlink
+unlink_none keep ws free = refl
+
+pub unlink_more : (keep : ℕ → Bool) (ws : List Waiter) (free x : ℕ) (xs : List ℕ)
+    → unlink keep ws free (x ∷ xs) ≡ link (keep x) x (unlink keep ws free xs)
+unfolding unlink
+unlink_more keep ws free x xs = refl
+
+pub ruleset steps = (
+  common_steps,
+  pick_yes,
+  pick_no,
+  and_no,
+  and_yes,
+  and-false,
+  or_no,
+  or_yes,
+  waiter_at_none,
+  waiter_at-pos,
+  waiter_at-out,
+  waiter_put-out,
+  unlink_none,
+  unlink_more,
+  waiter_put_none,
+  waiter_put-pos,
+  walk-nil,
+  walk-out,
+  walk_record,
+  at-thread,
+  at-address,
+  has_none,
+  has_more,
+  last_one,
+  last_more,
+  last-zero,
+)

@@ -17,4 +17,5 @@ kept (Some t) x = not (eqb x t)
 
 -- the chain from h without the records of a thread, or without all of them
 abbrev pub unlink_from : Option ℕ → List Waiter → ℕ → ℕ → ℕ → Links
-unlink_from thread ws h left free = unlink (λ x. kept thread (waiter_at ws x).thread) ws free (walk (waiter_nexts ws) left h)
+unlink_from thread ws h left free = unlink (λ x. kept thread (waiter_at ws x).thread) ws free
+    (walk (waiter_nexts ws) left h)

@@ -34,11 +34,7 @@ pub fn waiter_at(ws: &[Waiter; 64], x: u32) -> Waiter
     ensures { result ≡ def.waiter_at ws.now x }
 {
     if x == 0 || 64 < x {
-        return Waiter {
-            thread: 0,
-            address: 0,
-            next: 0,
-        };
+        return Waiter::default();
     }
     ws[(x - 1) as usize]
 }
@@ -72,9 +68,8 @@ pub fn link(ws: &mut [Waiter; 64], keep: bool, x: u32, u: Ends) -> Ends
         ws,
         x,
         Waiter {
-            thread: 0,
-            address: 0,
             next: u.free,
+            ..Waiter::default()
         },
     );
     Ends { free: x, ..u }
@@ -126,7 +121,8 @@ pub fn headed(s: Slot, first: u32) -> Slot
 
 // Whether a record of the chain from at is that of thread t and address a.
 fn has_record(ws: &[Waiter; 64], t: u32, a: u32, at: u32, left: u32) -> bool
-    ensures { result ≡ chains.has? (waiter_threads ws.now) (waiter_addresses ws.now) t a (walk (waiter_nexts ws.now) left at) }
+    ensures { result ≡ chains.has? (waiter_threads ws.now) (waiter_addresses ws.now) t a
+        (walk (waiter_nexts ws.now) left at) }
 {
     if at == 0 || left == 0 {
         return false;
@@ -165,7 +161,9 @@ pub fn hang(ws: &mut [Waiter; 64], last: u32, r: u32, w: Waiter)
 
 // The last record of the chain from head, 0 if it has none; none if the chain has a record of thread t and address a.
 pub fn chain_end(ws: &[Waiter; 64], head: u32, t: u32, a: u32) -> Option<u32>
-    ensures { result ≡ pick (chains.has? (waiter_threads ws.now) (waiter_addresses ws.now) t a (walk (waiter_nexts ws.now) 64 head)) None (Some (def.last_of (walk (waiter_nexts ws.now) 64 head))) }
+    ensures { result ≡ pick
+        (chains.has? (waiter_threads ws.now) (waiter_addresses ws.now) t a (walk (waiter_nexts ws.now) 64 head)) None
+        (Some (def.last_of (walk (waiter_nexts ws.now) 64 head))) }
 {
     if has_record(ws, t, a, head, 64) {
         return None;

@@ -2,7 +2,6 @@
 use Rattle.std.specs.Prelude.{Result, Ok, Err}
 use mathlib.Core.Path.{◌≡◌, sym, ap, subst, ◌∙◌}
 use mathlib.Core.List.{List}
-use mathlib.Core.Logic.{◌≢◌}
 use Prim.Native.Nat.{ℕ}
 use Rattle.types.specs.declared.kernel.Kernel.{Kernel}
 use Rattle.svc.specs.declared.Served.{Served}

@@ -1,4 +1,5 @@
 -- Whether an object can be made for a handle, and what the store says after that. Assumes nothing.
+use Rattle.std.proofs.lemmas.Grind.{common_steps}
 use Rattle.std.specs.Prelude.{Option, Some, None}
 use mathlib.Core.Path.{◌≡◌, refl, sym, ap, ◌∙◌}
 use mathlib.Core.Bool.{Bool, true, false}
@@ -101,3 +102,5 @@ module _ (b : List ℕ) (h : ℕ) where
 
     pub makes-plain : h ≢ 0xFFFF8001 → false ≡ makes j h
     makes-plain w = rw (ne_eqb h 0xFFFF8000 n, ne_eqb h 0xFFFF8001 w)
+
+pub ruleset rooms = (common_steps, room-some, room-none, makes-current, makes-process, makes-plain)

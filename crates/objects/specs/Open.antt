@@ -47,7 +47,8 @@ no_room k h = eqb k.objects.free 0 and makes k h
 
 -- whether a handle names an object once it is open, with a slot for one that is to be made
 abbrev pub named : Option ℕ → HandleTable → ℕ → Bool
-named c t h = pick (eqb h 0xFFFF8000) (not (eqb (option_flag c) 0)) (pick (eqb h 0xFFFF8001) true (not (eqb (object_of t h) 0)))
+named c t h = pick (eqb h 0xFFFF8000) (not (eqb (option_flag c) 0))
+    (pick (eqb h 0xFFFF8001) true (not (eqb (object_of t h) 0)))
 
 pub record Names (k : Kernel) (h : ℕ) (r : Bool) : Type 0 where
   pub none : r ≡ false → resolved k h ≡ record { object = record { 0 = 0 }; store = k.objects }

@@ -12,13 +12,5 @@ use units::ObjectId;
 pub fn content(block: &mut Block, o: ObjectId, x: Slot, v: KObject)
     ensures { block.new ≡ slot_put block.old o.0 (with_object x v) }
 {
-    write::put_slot(
-        block,
-        o,
-        Slot {
-            object: v,
-            refcount: x.refcount,
-            pulsed: x.pulsed,
-        },
-    );
+    write::put_slot(block, o, Slot { object: v, ..x });
 }

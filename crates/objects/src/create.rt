@@ -1,5 +1,5 @@
 // A new object with a handle.
-ghost use Rattle.std.specs.Prelude.{◌≡◌, true, ◌<◌, ◌+◌, length};
+ghost use Rattle.std.specs.Prelude.{◌≡◌, true};
 ghost use Rattle.block.specs.Block.{dec_block};
 ghost use Rattle.sound.specs.Question.{sound?};
 ghost use Rattle.object.specs.Store.{insert};
@@ -8,40 +8,24 @@ ghost use Rattle.svc.specs.Call.{with_handles, create_object};
 ghost use Rattle.rows.specs.Holds.{Holds};
 ghost use Rattle.outcome.specs.Outcome.{outcome, left};
 
-use block::{Block, Head};
-use codec::Four;
+use block::Block;
 use outcome::Outcome;
-use rows::{read, write};
-use types::object::{HandleEntry, KObject, Slot};
+use rows::write;
+use types::object::KObject;
 use types::refusal::Refusal;
-use units::{Handle, ObjectId};
+use units::ObjectId;
 
-// The object goes into the first free slot, the handle behind the last one; both have room.
+// The object goes into the first free slot, the handle behind the last one.
 fn put_created(block: &mut Block, v: KObject)
-    requires block_value { sound? block.old ≡ true }
-    requires block_bound { (dec_block block.old).handles.count < 256 }
-    requires block_bound_2 { (dec_block block.old).handles.next.0 < 0xFFFF8000 }
+    requires { sound? block.old ≡ true }
     ensures { Holds block.new (with_handles (dec_block block.old)
         (give (dec_block block.old).handles (dec_block block.old).objects.free)
         (insert (dec_block block.old).objects v)) }
 {
     let head = block::get_head(block);
-    let o = ObjectId(head.c.0);
-    let old = read::slot_at(block, o);
-    let next = types::object::next_of(old.object);
-    let slot = Slot {
-        object: v,
-        refcount: 1,
-        ..old
-    };
-    write::put_slot(block, o, slot);
-    let entry = HandleEntry {
-        handle: Handle(head.c.3),
-        object: o,
-    };
-    write::put_entry(block, head.c.2, entry);
-    let c = Four(next, head.c.1, head.c.2 + 1, head.c.3 + 1);
-    write::put_head(block, Head { c, ..head });
+    let made = write::insert(block, head, v, 1);
+    let given = write::give(block, made, ObjectId(head.free));
+    write::put_head(block, given);
 }
 
 // r1 gets the handle.

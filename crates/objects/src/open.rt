@@ -14,9 +14,8 @@ ghost use Rattle.objects.specs.Open.{Opens, of_process, makes_current, no_room, 
 ghost use Rattle.objects.specs.Open as def;
 
 use block::{Block, Head};
-use codec::Four;
 use rows::{read, write};
-use types::object::{KObject, Slot};
+use types::object::KObject;
 use types::refusal::Refusal;
 use units::{Handle, ObjectId};
 
@@ -27,18 +26,14 @@ fn put_inserted(block: &mut Block, v: KObject, process: ObjectId)
         (with_process (insert (dec_block block.old).objects v) process)) }
 {
     let head = block::get_head(block);
-    let o = ObjectId(head.c.0);
-    let old = read::slot_at(block, o);
-    let next = types::object::next_of(old.object);
-    let slot = Slot {
-        object: v,
-        refcount: 1,
-        ..old
-    };
-    write::put_slot(block, o, slot);
-    let c = Four(next, head.c.1, head.c.2, head.c.3);
-    let d = Four(process.0, 0, 0, 0);
-    write::put_head(block, Head { c, d, ..head });
+    let made = write::insert(block, head, v, 1);
+    write::put_head(
+        block,
+        Head {
+            process_object: process.0,
+            ..made
+        },
+    );
 }
 
 // Nothing is made.
@@ -50,6 +45,7 @@ fn there(block: &Block, o: ObjectId) -> Result<ObjectId, Refusal>
 }
 
 // Room for an object that must be made.
+#[tactic(auto, unfolding(block::specs::Block::dec_block, codec::specs::Layout::dec_as))]
 fn room_to_make(block: &Block) -> Result<(), Refusal>
     ensures { result ≡ unless_found (found_making (dec_block block.now)) tt }
 {
@@ -130,16 +126,11 @@ pub fn resolve(block: &mut Block, h: Handle) -> Result<ObjectId, Refusal>
 fn makes_current(block: &Block, current: Option<u32>) -> bool
     ensures { result ≡ makes_current (dec_block block.now).objects current }
 {
-    match current {
-        None => false,
-        Some(t) => {
-            let o = read::kept_at(block, t);
-            o.0 == 0
-        }
-    }
+    current.is_some_and(|t| read::kept_at(block, t).0 == 0)
 }
 
 // The object of the handle is yet to be made.
+#[tactic(auto, using(crate::proofs::Room::rooms))]
 pub fn makes(block: &Block, h: Handle) -> bool
     ensures { result ≡ def.makes (dec_block block.now) h.0 }
 {
@@ -155,13 +146,11 @@ pub fn makes(block: &Block, h: Handle) -> bool
 }
 
 // It is, and no slot is free. For a call that writes before it opens the handle.
+#[tactic(auto, using(crate::proofs::Room::rooms))]
 pub fn no_room(block: &Block, h: Handle) -> bool
     ensures { result ≡ no_room (dec_block block.now) h.0 }
 {
-    if codec::get32(block, 32) != 0 {
-        return false;
-    }
-    makes(block, h)
+    codec::get32(block, 32) == 0 && makes(block, h)
 }
 
 // Whether the handle names an object once it is open.
@@ -170,8 +159,7 @@ pub fn names(block: &Block, h: Handle) -> bool
 {
     let n = h.0;
     if n == 0xFFFF8000 {
-        let current = read::current(block);
-        return types::thread::option_flag(current) != 0;
+        return read::current(block).is_some();
     }
     if n == 0xFFFF8001 {
         return true;

@@ -34,7 +34,8 @@ found-room false false x = refl
 pub room-none : {A : Type 0} (f v : Bool) (x y : A) → unless_found (found_of f v) x ≡ Ok y → found_of f v ≡ 0
 room-none f v x y e = sym (found-room f v x) ∙ ap found_in e
 
-pub room-refused : {A : Type 0} (f v : Bool) (x : A) (r : Refusal) → unless_found (found_of f v) x ≡ Err r → found_of f v ≡ refusal_number r
+pub room-refused : {A : Type 0} (f v : Bool) (x : A) (r : Refusal) → unless_found (found_of f v) x ≡ Err r
+    → found_of f v ≡ refusal_number r
 room-refused f v x r e = sym (found-room f v x) ∙ ap found_in e
 
 pub found-finding : {A : Type 0} (k : Kernel) (x : A) → found_in (unless_found (finding k) x) ≡ finding k

@@ -68,15 +68,23 @@ pub fn out_of_handles(block: &Block) -> bool
     questions::out_of_handles(Handle(codec::get32(block, 44)))
 }
 
-// The answer, which r0 gets too.
-pub fn answers(a: Answer) -> Outcome
-    ensures { result ≡ def.answered (answer_number a) }
+// The answer's number, which r0 gets too.
+pub fn answers(number: u32) -> Outcome
+    ensures { result ≡ def.answered number }
 {
     Outcome {
-        answer: u32::from(a),
-        r0: Some(u32::from(a)),
+        answer: number,
+        r0: Some(number),
         r1: None,
         word: None,
+    }
+}
+
+impl From<Answer> for Outcome {
+    ghost from_gives = { λ a o. o ≡ def.answered (answer_number a) };
+
+    fn from(a: Answer) -> Outcome {
+        answers(u32::from(a))
     }
 }
 
@@ -84,7 +92,7 @@ pub fn answers(a: Answer) -> Outcome
 pub fn done() -> Outcome
     ensures { result ≡ def.answered 0 }
 {
-    answers(Answer::Done)
+    Outcome::from(Answer::Done)
 }
 
 // Done, and r1 gets v.

@@ -1,5 +1,6 @@
 -- `satisfied_now` and `quiet_release` of mod.rs: what a call would find, with nothing changed.
-use Rattle.std.specs.Prelude.{Bool, true, not, List, [], ◌∷◌, map, ℕ, zero, suc, eqb, leb, ltb, length, replicate, Option, Some, None}
+use Rattle.std.specs.Prelude.{Bool, true, not, List, [], ◌∷◌, map, ℕ, zero, suc, eqb, leb, ltb, length, replicate}
+use Rattle.std.specs.Prelude.{Option, Some, None}
 use Rattle.laws.specs.Logic.{pick, ◌and◌, ◌or◌}
 use Rattle.units.specs.declared.ObjectId.{ObjectId}
 use Rattle.types.specs.declared.thread.ThreadStatus.{ThreadStatus}
@@ -84,14 +85,16 @@ calm_from o c p i (t ∷ ts) = calm o c p i t t.status and calm_from o c p (suc 
 abbrev pub frees_quietly : Option ℕ → Kernel → ℕ → ℕ → Option Release
 frees_quietly None k o tick = None
 frees_quietly (Some c) k o tick =
-    pick (runs_on k (thread_at k.threads c) tick and calm_from o c (thread_at k.threads c).priority 0 k.threads) (Some (Frees (record { 0 = o }))) None
+    pick (runs_on k (thread_at k.threads c) tick and calm_from o c (thread_at k.threads c).priority 0 k.threads)
+    (Some (Frees (record { 0 = o }))) None
 
 -- held more than once it only counts down; what is no mutex is not let go of
 abbrev pub release_as : KObject → Kernel → ℕ → ℕ → Option Release
 release_as (Free n) k o tick = None
 release_as (Thread u) k o tick = None
 release_as (Event e) k o tick = None
-release_as (Mutex m) k o tick = pick (ltb 1 m.lock_count) (Some (CountsDown (record { 0 = o }))) (frees_quietly k.current_thread k o tick)
+release_as (Mutex m) k o tick = pick (ltb 1 m.lock_count) (Some (CountsDown (record { 0 = o })))
+    (frees_quietly k.current_thread k o tick)
 release_as (Semaphore s) k o tick = None
 release_as (Timer t) k o tick = None
 release_as (AddressArbiter a) k o tick = None

@@ -1,5 +1,6 @@
 -- `others_ready`, `pick_next` and `pick_other` of mod.rs. The row is looked over whole: a place without a thread reads as Dead.
-use Rattle.std.specs.Prelude.{Bool, true, false, not, List, [], ◌∷◌, ℕ, zero, suc, ◌+◌, eqb, leb, ltb, Option, Some, None}
+use Rattle.std.specs.Prelude.{Bool, true, false, not, List, [], ◌∷◌, ℕ, zero, suc, ◌+◌, eqb, leb, ltb, Option, Some}
+use Rattle.std.specs.Prelude.{None}
 use Rattle.laws.specs.Logic.{pick, ◌and◌, ◌or◌}
 use Rattle.types.specs.declared.thread.ThreadStatus.{ThreadStatus}
 use Rattle.types.specs.declared.thread.ThreadStatus.TheVariants.{Dead, Running, Ready, Sleeping, WaitSync, WaitArbiter, Dormant}

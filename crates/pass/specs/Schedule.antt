@@ -38,7 +38,8 @@ with_run t waited since = record {
 -- the current thread has waited if it cannot run, after all waits were tried
 abbrev pub mark_waited : List Thread → Option ℕ → List Thread
 mark_waited ts None = ts
-mark_waited ts (Some c) = pick (is_runnable (thread_at ts c).status) ts (set ts c (with_run (thread_at ts c) true (thread_at ts c).running_since.0))
+mark_waited ts (Some c) = pick (is_runnable (thread_at ts c).status) ts
+    (set ts c (with_run (thread_at ts c) true (thread_at ts c).running_since.0))
 
 -- a thread that has waited begins to run
 abbrev pub begun : Thread → ℕ → Thread
@@ -107,15 +108,40 @@ scheduled k s ts next relief = record {
 -- the thread that was current, and the one that is to run
 abbrev pub switch_as : Kernel → ObjectStore → List Thread → Bool → Option ℕ → Option ℕ → Passed
 -- nobody ran and nobody can: nothing switches
-switch_as k s ts relief None None = record { kernel = scheduled k s ts None relief; saved = None; restored = None; switched = false }
+switch_as k s ts relief None None = record {
+  kernel = scheduled k s ts None relief;
+  saved = None;
+  restored = None;
+  switched = false;
+}
 -- everything is blocked: the context is saved
-switch_as k s ts relief (Some c) None = record { kernel = scheduled k s (leave_core ts (Some c)) None relief; saved = Some c; restored = None; switched = true }
-switch_as k s ts relief None (Some n) = record { kernel = scheduled k s (take_core ts n) (Some n) relief; saved = None; restored = Some n; switched = true }
+switch_as k s ts relief (Some c) None = record {
+  kernel = scheduled k s (leave_core ts (Some c)) None relief;
+  saved = Some c;
+  restored = None;
+  switched = true;
+}
+switch_as k s ts relief None (Some n) = record {
+  kernel = scheduled k s (take_core ts n) (Some n) relief;
+  saved = None;
+  restored = Some n;
+  switched = true;
+}
 -- a thread that stays current is neither saved nor restored
 switch_as k s ts relief (Some c) (Some n) =
     pick (eqb c n)
-    (record { kernel = scheduled k s (take_core ts n) (Some n) relief; saved = None; restored = None; switched = false })
-    (record { kernel = scheduled k s (take_core (leave_core ts (Some c)) n) (Some n) relief; saved = Some c; restored = Some n; switched = true })
+    (record {
+      kernel = scheduled k s (take_core ts n) (Some n) relief;
+      saved = None;
+      restored = None;
+      switched = false;
+    })
+    (record {
+      kernel = scheduled k s (take_core (leave_core ts (Some c)) n) (Some n) relief;
+      saved = Some c;
+      restored = Some n;
+      switched = true;
+    })
 
 -- ---- the pass, after the tries: choose
 abbrev pub choose_from : Kernel → ObjectStore → List Thread → Option ℕ → ℕ → Passed

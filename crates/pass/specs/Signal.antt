@@ -53,7 +53,8 @@ abbrev pub acquired : KObject → ℕ → KObject
 acquired (Free n) w = Free n
 acquired (Thread u) w = Thread u
 acquired (Event e) w = Event (record { reset_type = e.reset_type; signaled = stays_set e.reset_type e.signaled })
-acquired (Mutex m) w = Mutex (record { owner = Some w; lock_count = pick (ltb m.lock_count 4294967295) (m.lock_count + 1) m.lock_count })
+acquired (Mutex m) w = Mutex
+    (record { owner = Some w; lock_count = pick (ltb m.lock_count 4294967295) (m.lock_count + 1) m.lock_count })
 acquired (Semaphore s) w = Semaphore (record { count = one_less s.count; max_count = s.max_count })
 acquired (Timer t) w = Timer (record { reset_type = t.reset_type; signaled = stays_set t.reset_type t.signaled; fire_at = t.fire_at; interval = t.interval })
 acquired (AddressArbiter a) w = AddressArbiter a

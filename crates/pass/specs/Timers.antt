@@ -1,6 +1,7 @@
 -- `fire_timers`, `catch_up_timers` and `timer_due` of mod.rs. `timers` is the live timer slots.
 use Rattle.units.specs.declared.Ticks.{Ticks}
-use Rattle.std.specs.Prelude.{Bool, true, false, not, List, [], ◌∷◌, map, ℕ, suc, ◌+◌, ◌-◌, ◌*◌, ◌/◌, leb, ltb, Option, Some, None}
+use Rattle.std.specs.Prelude.{Bool, true, false, not, List, [], ◌∷◌, map, ℕ, suc, ◌+◌, ◌-◌, ◌*◌, ◌/◌, leb, ltb, Option}
+use Rattle.std.specs.Prelude.{Some, None}
 use Rattle.laws.specs.Logic.{pick, ◌and◌, ◌or◌}
 use Rattle.types.specs.declared.thread.Thread as th
 use Rattle.types.specs.declared.sync.Timer as ti
@@ -31,7 +32,8 @@ due_by (Some at) tick = leb at.0 tick
 
 -- the first period after the tick, counted from when it came due; an interval of 0 fires once
 abbrev pub due_again : ℕ → ℕ → ℕ → Option Ticks
-due_again at interval tick = pick (ltb 0 interval) (Some (record { 0 = saturating_add at (saturating_mul interval ((tick - at) / interval + 1)) })) None
+due_again at interval tick = pick (ltb 0 interval)
+    (Some (record { 0 = saturating_add at (saturating_mul interval ((tick - at) / interval + 1)) })) None
 
 -- question 8: the count of periods does not fit
 abbrev pub periods_over : ℕ → ℕ → ℕ → Bool

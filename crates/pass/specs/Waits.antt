@@ -1,6 +1,7 @@
 -- `try_satisfy_wait`, `begin_wait` and `sleep_current` of mod.rs.
 use Rattle.units.specs.declared.Ticks.{Ticks}
-use Rattle.std.specs.Prelude.{Bool, true, false, List, [], ◌∷◌, ℕ, zero, suc, ◌+◌, set, take, get_or, Option, Some, None}
+use Rattle.std.specs.Prelude.{Bool, true, false, List, [], ◌∷◌, ℕ, zero, suc, ◌+◌, set, take, get_or, Option, Some}
+use Rattle.std.specs.Prelude.{None}
 use Rattle.laws.specs.Logic.{pick, ◌and◌}
 use Rattle.types.specs.declared.thread.ThreadStatus.{ThreadStatus}
 use Rattle.types.specs.declared.thread.ThreadStatus.TheVariants.{Dead, Running, Ready, Sleeping, WaitSync, WaitArbiter, Dormant}
@@ -74,7 +75,9 @@ awake w t r = record {
 
 abbrev pub try_as : Fate → Waits → ℕ → Waits
 try_as Stays w t = w
-try_as (Given i) w t = awake (record { objects = acquires w.objects (taken (thread_at w.threads t) i) t; threads = w.threads }) t (Some (Signaled i))
+try_as (Given i) w t = awake
+    (record { objects = acquires w.objects (taken (thread_at w.threads t) i) t; threads = w.threads }) t
+    (Some (Signaled i))
 try_as TimedOut w t = awake w t (Some result.TimedOut)
 try_as Slept w t = awake w t (thread_at w.threads t).wait_result
 
@@ -142,7 +145,8 @@ sleeping t wake = record {
 
 abbrev pub sleep_as : Option ℕ → Kernel → ℕ → ℕ → Kernel
 sleep_as None k ticks tick = k
-sleep_as (Some c) k ticks tick = with_threads k (set k.threads c (sleeping (thread_at k.threads c) (saturating_add tick ticks))) k.objects
+sleep_as (Some c) k ticks tick = with_threads k
+    (set k.threads c (sleeping (thread_at k.threads c) (saturating_add tick ticks))) k.objects
 
 unfoldable pub sleep_current : Kernel → ℕ → ℕ → Kernel
 sleep_current k ticks tick = sleep_as k.current_thread k ticks tick

@@ -1,6 +1,7 @@
 -- Timers that fire, pulses that end, and pulses that are lost leave a state sound.
 use Rattle.units.specs.declared.Ticks.{Ticks}
-use Rattle.std.specs.Prelude.{◌≡◌, refl, Bool, true, false, not, ℕ, suc, ◌+◌, ◌-◌, ◌/◌, ◌^◌, ◌<◌, leb, ltb, Option, Some, None}
+use Rattle.std.specs.Prelude.{◌≡◌, refl, Bool, true, false, not, ℕ, suc, ◌+◌, ◌-◌, ◌/◌, ◌^◌, ◌<◌, leb, ltb, Option}
+use Rattle.std.specs.Prelude.{Some, None}
 use mathlib.Core.List.{List, [], ◌∷◌, map}
 use Rattle.std.proofs.Common.{arith}
 use Rattle.laws.specs.Logic.{pick, ◌and◌, ◌or◌}

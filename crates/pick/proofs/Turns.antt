@@ -10,7 +10,8 @@ use native.Mathlib.Omega.{arith}
 use lib.Dec.{ltb}
 use borrow.Author.Tests.{ltb-false}
 use lib.ListN.{length}
-use Rattle.laws.specs.Logic.{pick}
+use Rattle.std.proofs.lemmas.Grind.{common_steps}
+use Rattle.laws.specs.Logic.{pick, pick_yes, pick_no}
 use Rattle.types.specs.declared.thread.Thread.{Thread}
 use Rattle.thread.specs.Threads.{least}
 use Rattle.pass.specs.Pick.{runs_at, first_from, or_else, cyclic}
@@ -118,3 +119,5 @@ module _ (ts : List Thread) (p : ℕ) where
       go true e = refl
       go false e = ap (λ (x : Option ℕ). or_else x (first_from test 32 0))
           (first-far ts p 32 32 (omega (arith, n)) ∙ sym (first-far ts p 32 start (omega (arith, n, ltb-false start 32 e))))
+
+pub ruleset finds = (common_steps, pick_yes, pick_no, turns-step, turns-end, cyclic-cut)

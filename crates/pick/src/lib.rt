@@ -7,7 +7,6 @@ ghost use Rattle.sound.specs.Threads.{is_current};
 ghost use Rattle.thread.specs.Threads.{least};
 ghost use Rattle.pass.specs.Pick as def;
 
-use thread::places;
 use types::thread::{Thread, ThreadStatus};
 
 pub fn is_runnable(s: ThreadStatus) -> bool
@@ -46,9 +45,10 @@ fn better_priority(best: u32, t: Thread) -> u32
     ensures { result ≡ def.better best t }
 {
     if is_runnable(t.status) {
-        return places::least_of(t.priority, best);
+        t.priority.min(best)
+    } else {
+        best
     }
-    best
 }
 
 // The least priority number of the runnable threads, 64 if there is none. No option: as a number, which `best` of the
@@ -72,6 +72,7 @@ fn runs_at(t: Thread, p: u32) -> bool
 }
 
 // The first thread of a row, cyclically from start on, that is runnable with the priority p.
+#[tactic(auto, using(crate::proofs::Turns::finds))]
 fn cyclic_in_row(row: &[Thread], p: u32, start: usize) -> Option<u32>
     requires { (start ≤ length row.now) × (length row.now ≤ 32) }
     ensures { result ≡ def.cyclic row.now p start }
@@ -114,6 +115,7 @@ fn keeps_core(ts: &[Thread; 32], c: Option<u32>, p: u32) -> bool
 }
 
 // The current thread if it is Running and none is more urgent, else the first of the most urgent ones after it.
+#[tactic(auto, using(crate::proofs::Turns::finds), unfolding(pass::specs::Pick::pick_next))]
 pub fn pick_next(ts: &[Thread; 32], c: Option<u32>) -> Option<u32>
     ensures { result ≡ def.pick_next ts.now c }
 {

@@ -72,13 +72,6 @@ module _ (l : List ObjectId) (n i : ℕ) (d : ObjectId) (h : i < length l) where
   pub places-step : places? (n - i) (ids (drop i l)) ≡ one_place? (ltb i n) (get_or l i d).0 and places? (n - (i + 1)) (ids (drop (i + 1) l))
   places-step = places_as (ltb i n) refl
 
-  pub zeros_step : places? (0 - i) (ids (drop i l)) ≡ eqb (get_or l i d).0 0 and places? (0 - (i + 1)) (ids (drop (i + 1) l))
-  unfolding places? one_place? zeros?
-  zeros_step =
-      let f : 0 - i ≡ 0 = omega arith in
-      let g : 0 - (i + 1) ≡ 0 = omega arith in
-      rw (f, g, drop-cons l i d h, add-one)
-
 places-none : (k : ℕ) → k ≢ 0 → places? k [] ≡ false
 unfolding places?
 places-none zero p = absurd (p refl)
@@ -145,10 +138,6 @@ unfolding entry?
 entry-names low e h =
     let o = ltb-true 0 e.object.0 (and-true _ _ (and-true _ _ h).1).0 in
     pick_no (eqb e.object.0 0) 129 e.object.0 (ne_eqb e.object.0 0 (omega (arith, o)))
-
-pub entry-object : (low : ℕ) (e : HandleEntry) → entry? low e ≡ true → e.object.0 ≤ 128
-unfolding entry?
-entry-object low e h = leb-true e.object.0 128 (and-true _ _ (and-true _ _ h).1).1
 
 -- counts after one more
 pub count-more : (c : List ℕ) (o m : ℕ) → length c ≡ 129 → ((j : ℕ) → get_or c j 0 ≤ m) → m + 1 ≤ 100000 → (j : ℕ) → get_or (bump 129 c o) j 0 ≤ m + 1

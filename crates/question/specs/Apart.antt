@@ -112,7 +112,8 @@ module _ (n : ℕ) (nx ts s m : List ℕ) (k left h : ℕ) (b : Bool) where
       let f : b and apart? n ts s k (walk nx left h) ≡ b = rw (walk-nil nx left h e) (and-end b) in
       λ i. outcome (sym (lone_nil nx m left h e) i) (sym f i)
 
-  pub code_open : lone? nx m left h ≡ false → Broken ≡ outcome (lone? nx m left h) (b and apart? n ts s k (walk nx left h))
+  pub code_open : lone? nx m left h ≡ false
+      → Broken ≡ outcome (lone? nx m left h) (b and apart? n ts s k (walk nx left h))
   unfolding outcome
   code_open e = ap (λ (t : Bool). outcome t (b and apart? n ts s k (walk nx left h))) (sym e)
 

@@ -1,5 +1,6 @@
 -- The tests of objects and records as they are computed, over columns that one pass makes.
-use Rattle.std.specs.Prelude.{Bool, true, not, List, [], ◌∷◌, map, ℕ, eqb, leb, ltb, get_or, replicate, Option, Some, None}
+use Rattle.std.specs.Prelude.{Bool, true, not, List, [], ◌∷◌, map, ℕ, eqb, leb, ltb, get_or, replicate, Option, Some}
+use Rattle.std.specs.Prelude.{None}
 use Rattle.laws.specs.Logic.{◌and◌, ◌or◌}
 use Rattle.laws.specs.Count.{at}
 use Rattle.laws.specs.Numbers.{all_to, all_below}

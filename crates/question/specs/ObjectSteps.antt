@@ -56,12 +56,15 @@ module _ (nx : List ℕ) where
 
 -- ---- a record of a walk, and those after it
 module _ (nx ts ad : List ℕ) (left h : ℕ) (p : left ≢ 0) (q : h ≢ 0) where
-  pub blanks-step : blanks? ts ad (walk nx left h) ≡ eqb (at ts h) 0 and (eqb (at ad h) 0 and blanks? ts ad (walk nx (left - 1) (at nx h)))
+  pub blanks-step : blanks? ts ad (walk nx left h) ≡ eqb (at ts h) 0
+      and (eqb (at ad h) 0 and blanks? ts ad (walk nx (left - 1) (at nx h)))
   unfolding blanks?
   blanks-step = rw (walk-go nx left h p q)
 
   pub chain-step : (n : ℕ)
-      → chain? ts ad n (walk nx left h) ≡ ltb (at ts h) n and (not (has? ts ad (at ts h) (at ad h) (walk nx (left - 1) (at nx h))) and chain? ts ad n (walk nx (left - 1) (at nx h)))
+      → chain? ts ad n (walk nx left h) ≡ ltb (at ts h) n
+      and (not (has? ts ad (at ts h) (at ad h) (walk nx (left - 1) (at nx h)))
+      and chain? ts ad n (walk nx (left - 1) (at nx h)))
   unfolding chain?
   chain-step n = rw (walk-go nx left h p q)
 
@@ -71,7 +74,8 @@ unfolding slots?
 slots-start ks rs c m = sym (all_to-end _ 0 (omega arith))
 
 pub slots-next : (ks rs c m : List ℕ) (i : ℕ)
-    → slots? ks rs c m (i + 1) ≡ slot? (get_or ks i 0) (get_or rs i 0) (get_or c (i + 1) 0) (get_or m (i + 1) 0) and slots? ks rs c m i
+    → slots? ks rs c m (i + 1) ≡ slot? (get_or ks i 0) (get_or rs i 0) (get_or c (i + 1) 0) (get_or m (i + 1) 0)
+    and slots? ks rs c m i
 unfolding slots? all_to at
 slots-next ks rs c m i = rw add-one
 
@@ -130,7 +134,8 @@ module _ (nx ts ad : List ℕ) (n : ℕ) (hs : List ℕ) where
   unfolding chains_by?
   chains-next i c e = all-more _ i e (rw (at-next i) c)
 
-  pub chains-fails : (k i : ℕ) → i < k → chain? ts ad n (walk nx 64 (get_or hs i 0)) ≡ false → chains_by? nx ts ad n hs k ≡ false
+  pub chains-fails : (k i : ℕ) → i < k → chain? ts ad n (walk nx 64 (get_or hs i 0)) ≡ false
+      → chains_by? nx ts ad n hs k ≡ false
   unfolding chains_by?
   chains-fails k i h e = all-fails _ k i h (rw (at-next i) e)
 
@@ -150,7 +155,8 @@ unfolding once_all?
 once-start m = all_to-end _ 0 (omega arith)
 
 -- from cell 1 on
-pub once-next : (m : List ℕ) (i : ℕ) → 1 ≤ i → once_all? m (i - 1) ≡ true → eqb (get_or m i 0) 1 ≡ true → once_all? m (i + 1 - 1) ≡ true
+pub once-next : (m : List ℕ) (i : ℕ) → 1 ≤ i → once_all? m (i - 1) ≡ true → eqb (get_or m i 0) 1 ≡ true
+    → once_all? m (i + 1 - 1) ≡ true
 unfolding once_all?
 once-next m i p e h =
     let z : i - 1 + 1 ≡ i = omega arith in

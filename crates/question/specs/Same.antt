@@ -38,7 +38,10 @@ use Rattle.tally.specs.Lists as list
 use Rattle.tally.specs.Lists.{Listed, name_of, handle_names, list_names}
 use Rattle.question.specs.Linear.{slot?, slots?}
 use Rattle.tally.specs.Place.{slot_index}
-use Rattle.question.specs.LinearObjects.{named_of, named, counts_of, marks_of, kept_thread?, kept_process?, indexed, kept_threads?, kept_by?, objects_by?, dead_marks, live?, owner_by?, content_by?, contents_by?, end_all?, walk_all, once_all?, shared_out?, chains_by?, fine_pool?, records_by?, tables?, store?}
+use Rattle.question.specs.LinearObjects.{named_of, named, counts_of, marks_of, kept_thread?, kept_process?, indexed}
+use Rattle.question.specs.LinearObjects.{kept_threads?, kept_by?, objects_by?, dead_marks, live?, owner_by?}
+use Rattle.question.specs.LinearObjects.{content_by?, contents_by?, end_all?, walk_all, once_all?, shared_out?}
+use Rattle.question.specs.LinearObjects.{chains_by?, fine_pool?, records_by?, tables?, store?}
 
 -- ---- a number that names no object is counted nowhere
 module _ (o : ℕ) (p : 0 < o) (q : o ≤ 128) where

@@ -20,6 +20,7 @@ pub struct Records {
 }
 
 // Whether the chain from at ends within left cells, and one more in m for each cell that it has.
+#[tactic(auto, using(crate::proofs::Tests::walks))]
 pub fn mark_chain<const N: usize>(nexts: &[u32; N], m: &mut [u32; 129], at: u32, left: u32) -> bool
     ensures value { result ≡ ends? nexts.now left at }
     ensures m_after { m.new ≡ tally 129 m.old (walk nexts.now left at) }
@@ -38,6 +39,7 @@ pub fn mark_chain<const N: usize>(nexts: &[u32; N], m: &mut [u32; 129], at: u32,
 }
 
 // Whether thread t has not this mark yet, and the mark if so.
+#[tactic(auto, using(crate::proofs::Tests::marks))]
 fn fresh(seen: &mut [u32; 32], t: u32, mark: u32) -> bool
     ensures value { result ≡ fresh? seen.old t mark }
     ensures seen_after { seen.new ≡ marked seen.old t mark }
@@ -65,7 +67,8 @@ pub enum Marks {
 // Marks in m those of the 64 records that the chain from at has. It is apart if it was before, its threads are below
 // n, and none of them had the mark. The first fault ends the walk, so all walks over the same m together step on a
 // record at most once. m after Broken is left open, since it is not read then. What seen has is left open, since it
-// only tells Shared from Apart, and pairs are compared after Shared.
+// only tells Shared from Apart, and pairs are compared after Shared. What is handed on stays in registers, as no struct
+// of it would.
 fn mark_apart(
     r: &Records,
     m: &mut [u32; 129],
@@ -76,7 +79,9 @@ fn mark_apart(
     left: u32,
     apart: bool,
 ) -> Marks
-    ensures value { result ≡ outcome (lone? r.now.nexts m.old left at) (apart and apart? n r.now.threads seen.old mark (walk r.now.nexts left at)) }
+    ensures value { result
+        ≡ outcome (lone? r.now.nexts m.old left at)
+        (apart and apart? n r.now.threads seen.old mark (walk r.now.nexts left at)) }
     ensures m_after { result ≢ Broken → m.new ≡ tally 129 m.old (walk r.now.nexts left at) }
 {
     if at == 0 {
@@ -91,8 +96,8 @@ fn mark_apart(
     mark_apart(r, m, seen, mark, n, cell(&r.nexts, at), left - 1, still)
 }
 
-// mark_apart for the chain from head, which may be 0: None if it is broken, else whether it and the chains before are
-// apart. m and seen are left open as there.
+// mark_apart for the chain from head, which may be 0: None if it is broken, else whether it is apart. m and seen are
+// left open as there.
 pub fn mark_head(
     r: &Records,
     m: &mut [u32; 129],
@@ -100,18 +105,16 @@ pub fn mark_head(
     mark: u32,
     n: u32,
     head: u32,
-    apart: bool,
 ) -> Option<bool>
     ensures broken { result ≡ None → lone? r.now.nexts m.old 64 head ≡ false }
     ensures lone { (b : Bool) → result ≡ Some b → lone? r.now.nexts m.old 64 head ≡ true }
     ensures m_after { (b : Bool) → result ≡ Some b → m.new ≡ tally 129 m.old (walk r.now.nexts 64 head) }
-    ensures still { result ≡ Some true → apart ≡ true }
     ensures pairs { result ≡ Some true → (ad : List ℕ) → chain? r.now.threads ad n (walk r.now.nexts 64 head) ≡ true }
 {
     if head == 0 {
-        return Some(apart);
+        return Some(true);
     }
-    match mark_apart(r, m, seen, mark, n, head, 64, apart) {
+    match mark_apart(r, m, seen, mark, n, head, 64, true) {
         Marks::Broken => None,
         Marks::Shared => Some(false),
         Marks::Apart => Some(true),
@@ -119,6 +122,7 @@ pub fn mark_head(
 }
 
 // Whether the records of the chain from at name threads below n, and no thread and address twice.
+#[tactic(auto, using(crate::proofs::Tests::walks))]
 pub fn chain_ok(r: &Records, n: u32, at: u32, left: u32) -> bool
     ensures { result ≡ chain? r.now.threads r.now.addresses n (walk r.now.nexts left at) }
 {
@@ -135,6 +139,7 @@ pub fn chain_ok(r: &Records, n: u32, at: u32, left: u32) -> bool
 }
 
 // Whether the records of the chain from at are blank.
+#[tactic(auto, using(crate::proofs::Tests::walks))]
 pub fn blanks_ok(r: &Records, at: u32, left: u32) -> bool
     ensures { result ≡ blanks? r.now.threads r.now.addresses (walk r.now.nexts left at) }
 {

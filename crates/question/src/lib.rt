@@ -1,6 +1,6 @@
 // Question 2 on a block that is the encoding of what it decodes to: whether the state is sound. The block is read
 // where it lies; the slots are read once, into columns of numbers.
-#![tactic(auto)]
+#![tactic(auto, using(crate::proofs::Tests::tests))]
 
 pub mod chains;
 pub mod handles;
@@ -30,15 +30,12 @@ fn tables_ok(b: &Block, c: &mut [u32; 129]) -> bool
     ensures c_after { result ≡ true → c.new ≡ tally_all 129 (tally 129 c.old (handle_names (entries_in b.now))) (list_names (threads_in b.now)) }
 {
     let head = block::get_head(b);
-    let p = head.a;
-    let q = head.b;
-    let r = head.c;
-    let current = types::thread::option_of(p.2, p.3);
-    if !handles::handles_ok(b, c, r.2, Handle(r.3)) {
+    let current = types::thread::option_of(head.current_flag, head.current_value);
+    if !handles::handles_ok(b, c, head.handle_count, Handle(head.next_handle)) {
         return false;
     }
     names::tally_lists(c, b);
-    threads::threads_ok(p.1, current, b) && tls::tls_ok(b, q.0)
+    threads::threads_ok(head.thread_count, current, b) && tls::tls_ok(b, head.next_tls_slot)
 }
 
 // Objects, what they name, and records of arbiters, where c has the names of handles and of lists. c afterwards is
@@ -47,9 +44,8 @@ fn store_ok(b: &Block, c: &mut [u32; 129]) -> bool
     ensures { result ≡ store? (dec_block b.now) (bump 129 (tally 129 c.old (names (kept_in b.now))) (dec_block b.now).objects.process_object.0) }
 {
     let head = block::get_head(b);
-    let n = head.a.1;
-    let r = head.c;
-    let process = ObjectId(head.d.0);
+    let n = head.thread_count;
+    let process = ObjectId(head.process_object);
     names::tally_kept(c, b);
     tally::bump_at(c, process.0);
     let mut s = Columns {
@@ -62,8 +58,8 @@ fn store_ok(b: &Block, c: &mut [u32; 129]) -> bool
     let d = objects::dead_marks(b);
     let contents = objects::read_columns(b, n, &d, &mut s);
     contents
-        && objects::objects_ok(&s, r.0, c, b, process)
-        && records::records_ok(n, &s.heads, b, r.1)
+        && objects::objects_ok(&s, head.free, c, b, process)
+        && records::records_ok(n, &s.heads, b, head.free_waiter)
 }
 
 pub fn state_ok(b: &Block) -> bool

@@ -7,6 +7,7 @@ ghost use Rattle.tally.specs.Lists.{names, list_names};
 use block::Block;
 
 // One more for each object that a thread's list names.
+#[tactic(auto, using(crate::proofs::Tests::tables))]
 pub fn tally_lists(c: &mut [u32; 129], b: &Block)
     ensures { c.new ≡ tally_all 129 c.old (list_names (threads_in b.now)) }
 {
@@ -16,6 +17,7 @@ pub fn tally_lists(c: &mut [u32; 129], b: &Block)
 }
 
 // One more for each kept thread object.
+#[tactic(auto, using(crate::proofs::Tests::tables))]
 pub fn tally_kept(c: &mut [u32; 129], b: &Block)
     ensures { c.new ≡ tally 129 c.old (names (kept_in b.now)) }
 {

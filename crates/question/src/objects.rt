@@ -7,7 +7,8 @@ ghost use Rattle.block.specs.Tables.{threads_in, slots_in, kept_in};
 ghost use Rattle.sound.specs.View.{kinds, refs, nexts, heads, ids};
 ghost use Rattle.sound.specs.Objects.{up_to128};
 ghost use Rattle.question.specs.Linear.{slot?, slots?};
-ghost use Rattle.question.specs.LinearObjects.{named_of, named, kept_thread?, kept_process?, kept_threads?, kept_by?, objects_by?, dead_marks, live?, owner_by?, content_by?, contents_by?};
+ghost use Rattle.question.specs.LinearObjects.{named_of, named, kept_thread?, kept_process?, kept_threads?, kept_by?};
+ghost use Rattle.question.specs.LinearObjects.{objects_by?, dead_marks, live?, owner_by?, content_by?, contents_by?};
 
 use crate::chains;
 use block::Block;
@@ -29,7 +30,7 @@ pub struct Columns {
     pub named: [u32; 128],
 }
 
-// The thread that a thread object names.
+// The thread that a thread object names, 0 for another kind: a column of numbers, which is read for thread objects only.
 fn named_of(o: KObject) -> u32
     ensures { result ≡ named_of o }
 {
@@ -48,6 +49,7 @@ fn slot_ok(kind: u32, refs: u32, n: u32, f: u32) -> bool
 }
 
 // Faults are counted, since a loop with no early end is compiled to several turns at once.
+#[tactic(auto, using(crate::proofs::Tests::faults))]
 fn slots_ok(s: &Columns, c: &[u32; 129], m: &[u32; 129]) -> bool
     ensures { result ≡ slots? s.now.kinds s.now.refs c.now m.now 128 }
 {
@@ -58,6 +60,7 @@ fn slots_ok(s: &Columns, c: &[u32; 129], m: &[u32; 129]) -> bool
     bad == 0
 }
 
+#[tactic(auto, using(crate::proofs::Tests::tables))]
 fn kept_numbers_ok(b: &Block) -> bool
     ensures { result ≡ up_to128 (ids (kept_in b.now)) }
 {
@@ -77,7 +80,8 @@ fn kept_in(b: &Block, process: ObjectId) -> bool
 
 // Whether each count is the number of names c, and the free chain has exactly the dead slots.
 fn held_ok(s: &Columns, free: u32, c: &[u32; 129]) -> bool
-    ensures { result ≡ (ends? s.now.nexts 128 free and slots? s.now.kinds s.now.refs c.now (tally 129 (replicate 129 0) (walk s.now.nexts 128 free)) 128) }
+    ensures { result ≡ (ends? s.now.nexts 128 free
+        and slots? s.now.kinds s.now.refs c.now (tally 129 (replicate 129 0) (walk s.now.nexts 128 free)) 128) }
 {
     let mut m = [0u32; 129];
     chains::mark_chain(&s.nexts, &mut m, free, 128) && slots_ok(s, c, &m)
@@ -96,6 +100,7 @@ fn kept_process(o: ObjectId, kind: u32) -> bool
     o.0 == 0 || o.0 <= 128 && kind == 7
 }
 
+#[tactic(auto, using(crate::proofs::Tests::turns))]
 fn kept_threads_ok(s: &Columns, b: &Block) -> bool
     ensures { result ≡ kept_threads? s.now.kinds s.now.named (ids (kept_in b.now)) 32 }
 {
@@ -127,6 +132,7 @@ pub fn dead_marks(b: &Block) -> [bool; 32]
     r
 }
 
+#[tactic(auto, using(crate::proofs::Tests::marks))]
 fn live(d: &[bool; 32], t: u32) -> bool
     ensures { result ≡ live? d.now t }
 {
@@ -175,7 +181,8 @@ pub fn read_columns(b: &Block, n: u32, d: &[bool; 32], s: &mut Columns) -> bool
 // Whether kept objects are slots, each count is the number of names c, the free chain has exactly the dead slots, and
 // each kept object is what it is kept for; from the columns of the slots.
 pub fn objects_ok(s: &Columns, free: u32, c: &[u32; 129], b: &Block, process: ObjectId) -> bool
-    ensures { result ≡ objects_by? s.now.kinds s.now.refs s.now.nexts s.now.named free c.now (ids (kept_in b.now)) process.0 }
+    ensures { result ≡ objects_by? s.now.kinds s.now.refs s.now.nexts s.now.named free c.now (ids (kept_in b.now))
+        process.0 }
 {
     kept_in(b, process) && held_ok(s, free, c) && kept_ok(s, b, process)
 }

@@ -15,21 +15,24 @@ use block::Block;
 // below n and no chain has one twice. Ends at the first None.
 // m after None is left open, since the block is refused then. After false the threads are left open, since chains_ok
 // is asked then.
+#[tactic(auto, using(crate::proofs::Tests::tables))]
 fn mark_chains(r: &Records, m: &mut [u32; 129], n: u32, heads: &[u32; 128]) -> Option<bool>
     ensures broken { result ≡ None → lone_all? r.now.nexts m.old heads.now ≡ false }
     ensures lone { (b : Bool) → result ≡ Some b → lone_all? r.now.nexts m.old heads.now ≡ true }
     ensures m_after { (b : Bool) → result ≡ Some b → m.new ≡ tally_all 129 m.old (walk_all r.now.nexts heads.now) }
-    ensures pairs { result ≡ Some true → (ad : List ℕ) → chains_by? r.now.nexts r.now.threads ad n heads.now 128 ≡ true }
+    ensures pairs { result ≡ Some true → (ad : List ℕ)
+        → chains_by? r.now.nexts r.now.threads ad n heads.now 128 ≡ true }
 {
     let mut seen = [0u32; 32];
     let mut apart = true;
     for i in 0..128 {
-        apart = chains::mark_head(r, m, &mut seen, i as u32 + 1, n, heads[i], apart)?;
+        apart &= chains::mark_head(r, m, &mut seen, i as u32 + 1, n, heads[i])?;
     }
     Some(apart)
 }
 
 // Whether every chain names threads below n, and no thread and address twice.
+#[tactic(auto, using(crate::proofs::Tests::turns))]
 fn chains_ok(r: &Records, n: u32, heads: &[u32; 128]) -> bool
     ensures { result ≡ chains_by? r.now.nexts r.now.threads r.now.addresses n heads.now 128 }
 {
@@ -41,6 +44,7 @@ fn chains_ok(r: &Records, n: u32, heads: &[u32; 128]) -> bool
     true
 }
 
+#[tactic(auto, using(crate::proofs::Tests::turns))]
 fn once_ok(m: &[u32; 129]) -> bool
     ensures { result ≡ once_all? m.now 64 }
 {

@@ -24,6 +24,7 @@ fn one_place_ok(used: bool, o: ObjectId) -> bool
 }
 
 // Zeros.
+#[tactic(auto, using(crate::proofs::Tests::zeros))]
 fn none_ok(l: [ObjectId; WAIT_LIST]) -> bool
     ensures { result ≡ places? 0 (ids l) }
 {
@@ -37,6 +38,7 @@ fn none_ok(l: [ObjectId; WAIT_LIST]) -> bool
 
 // n object numbers, then zeros, of a list that is in use. Faults are counted, since a loop with no early end is
 // compiled to several turns at once.
+#[tactic(auto, using(crate::proofs::Tests::faults))]
 fn some_ok(n: u32, l: [ObjectId; WAIT_LIST]) -> bool
     ensures { result ≡ places? n (ids l) }
 {
@@ -86,6 +88,7 @@ fn four_zero(w: Four) -> bool
     w.0 == 0 && w.1 == 0 && w.2 == 0 && w.3 == 0
 }
 
+#[tactic(auto, using(crate::proofs::Tests::zeros))]
 fn words_zero(w: ThreadWords) -> bool
     ensures { result ≡ zeros? (words_list w) }
 {

@@ -9,6 +9,7 @@ ghost use Rattle.question.specs.Linear.{once32?};
 use block::Block;
 use types::thread::Thread;
 
+#[tactic(auto, using(crate::proofs::Tests::marks))]
 fn slot_below(next: u32, t: Thread) -> bool
     ensures { result ≡ below? next (slot_of t) }
 {
@@ -16,6 +17,7 @@ fn slot_below(next: u32, t: Thread) -> bool
 }
 
 // The slots of live threads are below next.
+#[tactic(auto, using(crate::proofs::Tests::tables))]
 fn below_ok(next: u32, b: &Block) -> bool
     ensures { result ≡ below? next (held (threads_in b.now)) }
 {
@@ -28,7 +30,8 @@ fn below_ok(next: u32, b: &Block) -> bool
 }
 
 // One more for the TLS slot of each live thread.
-fn tally_tls(m: &mut [u32; 129], b: &Block)
+#[tactic(auto, using(crate::proofs::Tests::tables))]
+pub fn tally_tls(m: &mut [u32; 129], b: &Block)
     ensures { m.new ≡ tally 129 m.old (held (threads_in b.now)) }
 {
     for i in 0..32 {

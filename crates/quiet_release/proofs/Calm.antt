@@ -6,6 +6,7 @@ use mathlib.Core.Bool.{Bool, true, false, not}
 use mathlib.Core.List.{List}
 use Prim.Native.Nat.{ℕ, ◌+◌, ◌≤◌, ◌<◌}
 use native.Mathlib.Numerals.{add-one}
+use Rattle.std.proofs.lemmas.Grind.{common_steps}
 use lib.Dec.{eqb}
 use lib.ListN.{length, drop, drop_of_length-le}
 use lib.Seq.{drop-cons}
@@ -22,6 +23,8 @@ use Rattle.types.specs.declared.object.Slot.{Slot}
 use Rattle.types.specs.declared.kernel.Kernel.{Kernel}
 use Rattle.types.specs.Thread.{result_number, syscall_number}
 use Rattle.sound.specs.View.{slot_at, object_at, thread_at, no_thread, thread_at-out}
+use Rattle.rows.specs.Sizes.{size-threads}
+use Rattle.due.proofs.Looked.{thread-is}
 use Rattle.pass.specs.declared.Release.TheVariants.{Frees}
 use Rattle.pass.specs.Signal.{any_pulsed}
 use Rattle.pass.specs.Timers.{timer_due}
@@ -127,3 +130,5 @@ not_mutex (Timer t) k o tick z = refl
 not_mutex (AddressArbiter a) k o tick z = refl
 not_mutex Process k o tick z = refl
 not_mutex ResourceLimit k o tick z = refl
+
+pub ruleset turns = (common_steps, size-threads, thread-is, calm-no, calm-yes, calm-end)

@@ -11,7 +11,7 @@ ghost use Rattle.lent.specs.Operations as def;
 use codec::Two;
 use lent::questions;
 use pass::Release;
-use types::refusal::Refusal;
+use types::refusal::{self, Refusal};
 use units::{Handle, Ticks};
 
 fn release_flag(r: Option<Release>) -> u32
@@ -45,9 +45,11 @@ fn put_release(answer: &mut [u8; 12], r: Option<Release>)
     codec::put32(answer, 8, frees);
 }
 
-// The same with the refusal itself.
+// What C gets, with the refusal itself.
+#[tactic(auto, using(lent::proofs::Cases::cases), unfolding(lent::specs::Operations::quiet_release))]
 fn look(block: &[u8], answer: &mut [u8], handle: Handle, tick: Ticks) -> Result<(), Refusal>
-    ensures { back (found_in result) (lent block.now [] [] [] answer.new) ≡ def.quiet_release handle.0 tick.0 (lent block.now [] [] [] answer.old) }
+    ensures { back (found_in result) (lent block.now [] [] [] answer.new)
+        ≡ def.quiet_release handle.0 tick.0 (lent block.now [] [] [] answer.old) }
 {
     let Some(block) = block.as_array::<16384>() else {
         return Err(Refusal::Length);
@@ -67,10 +69,8 @@ fn look(block: &[u8], answer: &mut [u8], handle: Handle, tick: Ticks) -> Result<
 
 // The mutex that the handle lets go of, and whether that frees it, if no pass is needed after it.
 pub fn operate(block: &[u8], answer: &mut [u8], handle: Handle, tick: Ticks) -> u32
-    ensures { back result (lent block.now [] [] [] answer.new) ≡ def.quiet_release handle.0 tick.0 (lent block.now [] [] [] answer.old) }
+    ensures { back result (lent block.now [] [] [] answer.new)
+        ≡ def.quiet_release handle.0 tick.0 (lent block.now [] [] [] answer.old) }
 {
-    match look(block, answer, handle, tick) {
-        Ok(()) => 0,
-        Err(refusal) => u32::from(refusal),
-    }
+    refusal::number(look(block, answer, handle, tick))
 }

@@ -68,6 +68,7 @@ fn calm(o: ObjectId, c: u32, p: u32, i: u32, t: Thread) -> bool
     }
 }
 
+#[tactic(auto, using(crate::proofs::Calm::turns))]
 fn all_calm(b: &Block, o: ObjectId, c: u32, p: u32) -> bool
     ensures { result ≡ def.calm_from o.0 c p 0 (dec_block b.now).threads }
 {

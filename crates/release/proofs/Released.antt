@@ -6,6 +6,7 @@ use Prim.Native.Nat.{ℕ, ◌-◌, ◌<◌, ◌≤◌}
 use borrow.Author.Tests.{le-leb, lt-leb}
 use lib.Dec.{leb}
 use lib.ListN.{length}
+use Rattle.std.proofs.lemmas.Grind.{common_steps}
 use Rattle.laws.specs.Walk.{walk, walk-zero}
 use Rattle.codec.specs.Bytes.{over}
 use Rattle.codec.specs.Layout.{enc_all, dec_all}
@@ -17,7 +18,6 @@ use Rattle.types.specs.Object.{head_of}
 use Rattle.types.specs.Tests.{free?, free-number}
 use Rattle.block.specs.declared.Head.{Head}
 use Rattle.block.specs.Table.{enc_waiter, dec_waiter}
-use Rattle.block.specs.Thread.{four}
 use Rattle.block.specs.Block.{head_words, dec_block}
 use Rattle.sound.specs.View.{slot_at, object_at, waiter_nexts}
 use Rattle.object.specs.declared.waiters.Links.{Links}
@@ -29,6 +29,7 @@ use Rattle.thread.specs.Threads.{with_threads}
 use Rattle.rows.specs.Rows.{slot_put, head_put}
 use Rattle.rows.specs.Holds.{Holds, with_waiters, put-slot, put-waiters, put-head}
 use Rattle.release.specs.Encoded.{Encoded, encoded-holds, held-state, held-encoded, store-fits, stored_fits}
+use Rattle.release.proofs.Lists.{list-next, list-all}
 
 -- the state k with other objects
 abbrev with : Kernel → ObjectStore → Kernel
@@ -67,14 +68,14 @@ module _ (e : List ℕ) (k : Kernel) (o : ℕ) where
   unfolding release_if
   in_slots g = put-head (put-slot g o (freed_slot (slot_at s.slots o) s.free)) (with k (release_if false s o)) refl refl refl refl refl
 
-  head-freed : record { a = (head_words k).a; b = (head_words k).b; c = four o links.free k.handles.count k.handles.next.0; d = (head_words k).d } ≡ head_words (with k (release_if false s o))
+  head-freed : record (head_words k) { free = o; free_waiter = links.free } ≡ head_words (with k (release_if false s o))
   unfolding release_if
   head-freed = refl
 
   -- with the head h of the state, the slot old, the first record and what is free then
-  pub freed : (h : Head) → h ≡ head_words k → (old : Slot) → old ≡ slot_at s.slots o → (first : ℕ) → first ≡ head_of old.object → (free : ℕ) → free ≡ (links_of s first h.c.1).free
-      → Holds e (with k (with_waiters s (links_of s first h.c.1).waiters))
-      → Holds (head_put (slot_put e o (freed_slot old h.c.0)) (record { a = h.a; b = h.b; c = four o free h.c.2 h.c.3; d = h.d })) (with k (release_if false s o))
+  pub freed : (h : Head) → h ≡ head_words k → (old : Slot) → old ≡ slot_at s.slots o → (first : ℕ) → first ≡ head_of old.object → (free : ℕ) → free ≡ (links_of s first h.free_waiter).free
+      → Holds e (with k (with_waiters s (links_of s first h.free_waiter).waiters))
+      → Holds (head_put (slot_put e o (freed_slot old h.free)) (record h { free = o; free_waiter = free })) (with k (release_if false s o))
   freed h eh old eo first ef free er g =
       let w : Holds e (with k (with_waiters s links.waiters)) = rw (ef, eo, eh) at g in
       rw (er, ef, eo, eh, head-freed) (in_slots w)
@@ -118,3 +119,7 @@ module _ (k : Kernel) (os : List ℕ) where
   pub release-end : (b : List ℕ) → Releasing b [] → (dec_block b ≡ with k (releases k.objects os)) × Encoded b
   unfolding releases
   release-end b g = (g.goal, g.encoded)
+
+pub ruleset goes = (common_steps, released-dead, released-last, released-down, released)
+
+pub ruleset lists = (common_steps, list-next, list-all, release-more, release-end)

@@ -2,9 +2,8 @@
 // are not right yet, so it need not be sound here, only the encoding of a state.
 #![tactic(auto)]
 
-ghost use Rattle.std.specs.Prelude.{◌≡◌, ◌≤◌, false, length, take};
+ghost use Rattle.std.specs.Prelude.{◌≡◌, false};
 ghost use Rattle.laws.specs.Walk.{walk};
-ghost use Rattle.types.specs.Thread.{wait_list};
 ghost use Rattle.block.specs.Block.{dec_block};
 ghost use Rattle.sound.specs.View.{ids, slot_at, waiter_nexts};
 ghost use Rattle.object.specs.Waiters.{unlink};
@@ -14,11 +13,9 @@ ghost use Rattle.rows.specs.Holds.{Holds, with_waiters};
 ghost use Rattle.release.specs.Encoded.{Encoded};
 
 use block::{Block, Head, record};
-use codec::Four;
 use object::waiters;
 use rows::{read, write};
 use types::object::{KObject, Slot};
-use types::thread::WAIT_LIST;
 use units::ObjectId;
 
 // The records of the chain from first are free again, in front of the free chain. Gives the first free record then.
@@ -43,13 +40,12 @@ fn free_slot(block: &mut Block, o: ObjectId, old: Slot)
     ensures { Holds block.new (with_threads (dec_block block.old) (dec_block block.old).threads (def.release_if false (dec_block block.old).objects o.0)) }
 {
     let head = block::get_head(block);
-    let c = head.c;
-    let free = free_records(block, types::object::head_of(old.object), c.1);
+    let free = free_records(block, types::object::head_of(old.object), head.free_waiter);
     write::put_slot(
         block,
         o,
         Slot {
-            object: KObject::Free(c.0),
+            object: KObject::Free(head.free),
             refcount: 0,
             ..old
         },
@@ -57,13 +53,15 @@ fn free_slot(block: &mut Block, o: ObjectId, old: Slot)
     write::put_head(
         block,
         Head {
-            c: Four(o.0, free, c.2, c.3),
+            free: o.0,
+            free_waiter: free,
             ..head
         },
     );
 }
 
 // One holder less; with the last the slot is free, and so are an arbiter's records. A dead slot has no holder to lose.
+#[tactic(auto, using(crate::proofs::Released::goes))]
 pub fn release(block: &mut Block, o: ObjectId)
     requires encoded { Encoded block.old }
     ensures block_after { dec_block block.new ≡ with_threads (dec_block block.old) (dec_block block.old).threads (def.release (dec_block block.old).objects o.0) }
@@ -86,18 +84,13 @@ pub fn release(block: &mut Block, o: ObjectId)
     );
 }
 
-// The first n of a wait's list. In mid-operation a thread's count may be more than the places.
-pub fn first_of(list: &[ObjectId; WAIT_LIST], n: u32) -> &[ObjectId]
-    ensures value { ids result.now ≡ take n (ids list.now) }
-    ensures short { length result.now ≤ wait_list }
-{
-    &list[..(n as usize).min(WAIT_LIST)]
-}
-
 // Each of a list, in order.
+#[tactic(auto, using(crate::proofs::Released::lists))]
 pub fn release_list(block: &mut Block, list: &[ObjectId])
     requires encoded { Encoded block.old }
-    ensures block_after { dec_block block.new ≡ with_threads (dec_block block.old) (dec_block block.old).threads (def.releases (dec_block block.old).objects (ids list.now)) }
+    ensures block_after { dec_block block.new
+        ≡ with_threads (dec_block block.old) (dec_block block.old).threads
+        (def.releases (dec_block block.old).objects (ids list.now)) }
     ensures encoded_2 { Encoded block.new }
 {
     for o in list {

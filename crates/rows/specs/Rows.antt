@@ -4,8 +4,10 @@ use Rattle.laws.specs.Logic.{pick}
 use Rattle.codec.specs.Bytes.{over}
 use Rattle.units.specs.declared.ObjectId.{ObjectId}
 use Rattle.types.specs.declared.thread.Thread.{Thread}
+use Rattle.types.specs.declared.object.KObject.{KObject}
 use Rattle.types.specs.declared.object.Slot.{Slot}
 use Rattle.types.specs.declared.object.HandleEntry.{HandleEntry}
+use Rattle.types.specs.Object.{next_of}
 use Rattle.block.specs.declared.Head.{Head}
 use Rattle.block.specs.Table.{enc_entry, enc_id}
 use Rattle.block.specs.Thread.{enc_thread}
@@ -28,3 +30,22 @@ kept_put b i x = pick (ltb i 32) (over b (13184 + i * 4) (enc_id x)) b
 
 unfoldable pub head_put : List ℕ → Head → List ℕ
 head_put b h = over b 0 (enc_head h)
+
+-- ---- a new object in the first free slot, and a handle behind the last one, in a block with the head h
+-- the object v with n holders in place of old; the mark stays with the slot
+abbrev pub slot_inserted : Slot → KObject → ℕ → Slot
+slot_inserted old v n = record { object = v; refcount = n; pulsed = old.pulsed }
+
+-- the slot that has old is taken
+abbrev pub head_inserted : Head → Slot → Head
+head_inserted h old = record h { free = next_of old.object }
+
+abbrev pub entry_given : Head → ObjectId → HandleEntry
+entry_given h o = record { handle = record { 0 = h.next_handle }; object = o }
+
+-- one handle more, as `give` counts them
+abbrev pub head_given : Head → Head
+head_given h = record h {
+  handle_count = pick (ltb h.handle_count 256) (h.handle_count + 1) h.handle_count;
+  next_handle = pick (ltb h.next_handle 0xFFFF8000) (h.next_handle + 1) h.next_handle;
+}

@@ -8,7 +8,7 @@ ghost use Rattle.rows.specs.Place.{index_of};
 
 use block::{Block, record};
 use tally::place;
-use types::object::{KObject, Slot};
+use types::object::Slot;
 use types::thread::Thread;
 use units::{Handle, ObjectId};
 
@@ -28,15 +28,12 @@ pub fn thread_at(b: &Block, t: u32) -> Thread
 }
 
 // A number that no slot has reads as a dead slot.
+#[tactic(auto, using(crate::proofs::Laws::slots), unfolding(block::specs::Block::dec_block))]
 pub fn slot_at(b: &Block, o: ObjectId) -> Slot
     ensures { result ≡ slot_at (dec_block b.now).objects.slots o.0 }
 {
     if !place::is_slot(o) {
-        return Slot {
-            object: KObject::Free(0),
-            refcount: 0,
-            pulsed: false,
-        };
+        return Slot::default();
     }
     record::slot_at(b, place::slot_index(o))
 }
@@ -52,6 +49,7 @@ pub fn kept_at(b: &Block, t: u32) -> ObjectId
 }
 
 // The index of a handle among the entries.
+#[tactic(auto, using(crate::proofs::Laws::places), unfolding(block::specs::Block::dec_block))]
 pub fn place_of(b: &Block, h: Handle) -> Option<usize>
     ensures { result ≡ index_of (place_of (dec_block b.now).handles.entries h.0) }
 {
@@ -64,6 +62,7 @@ pub fn place_of(b: &Block, h: Handle) -> Option<usize>
 }
 
 // The object that a handle names in the table, 0 if none (`resolve` of object.rs).
+#[tactic(auto, using(crate::proofs::Laws::entries), unfolding(block::specs::Block::dec_block))]
 pub fn resolve(b: &Block, h: Handle) -> ObjectId
     ensures { result.0 ≡ object_of (dec_block b.now).handles h.0 }
 {

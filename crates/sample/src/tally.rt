@@ -2,13 +2,13 @@
 use crate::line::Line;
 use std::fmt;
 
-#[derive(Clone, Copy)]
+#[derive(Clone, Copy, Default)]
 pub struct Tally {
     pub lines: u32,
     pub operations: u32,
     pub differing: u32,
     // The line of the first that differs.
-    pub first: u32,
+    pub first: Option<u32>,
     // A bit for each.
     pub profiles: u32,
     pub calls: u64,
@@ -18,15 +18,7 @@ pub struct Tally {
 
 impl Tally {
     pub fn new() -> Tally {
-        Tally {
-            lines: 0,
-            operations: 0,
-            differing: 0,
-            first: 0,
-            profiles: 0,
-            calls: 0,
-            counts: [0; 32],
-        }
+        Tally::default()
     }
 
     // One line more. r PROFILE SEED starts a sequence, d is a guest call. Refusal 3 is of a number that is no guest
@@ -48,9 +40,7 @@ impl Tally {
         }
         self.operations = self.operations.wrapping_add(1);
         if !same {
-            if self.differing == 0 {
-                self.first = self.lines;
-            }
+            self.first = self.first.or(Some(self.lines));
             self.differing = self.differing.wrapping_add(1);
         }
     }
@@ -65,8 +55,8 @@ impl fmt::Display for Tally {
             "replay: {} operations of {profiles} profiles, {calls} guest calls, {} differing",
             self.operations, self.differing
         )?;
-        if self.differing != 0 {
-            writeln!(f, "the first in line {}", self.first)?;
+        if let Some(line) = self.first {
+            writeln!(f, "the first in line {line}")?;
         }
         for (number, n) in self.counts.iter().enumerate() {
             if *n != 0 {

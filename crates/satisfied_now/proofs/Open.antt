@@ -1,8 +1,8 @@
--- A list of handles: one more opened, whether one names no object, and the cases of what a wait on it finds.
+-- A list of handles: one more opened, and the cases of what a wait on it finds.
 -- Assumes nothing.
 use Rattle.std.specs.Prelude.{Some, ◌||◌}
 use Rattle.std.specs.List.{list_any}
-use Rattle.std.proofs.lemmas.List.{take-map}
+use Rattle.std.proofs.lemmas.Grind.{common_steps}
 use mathlib.Core.Path.{◌≡◌, refl, ◌∙◌}
 use mathlib.Core.Bool.{Bool, true, false}
 use mathlib.Core.List.{List, [], ◌∷◌, ◌++◌, map, map-append}
@@ -12,14 +12,14 @@ use native.Mathlib.Omega.{arith}
 use lib.Dec.{eqb}
 use lib.ListN.{length, take, drop, set, length-map}
 use borrow.Author.Tests.{lt-ltb, le-ltb}
-use Rattle.laws.specs.Logic.{◌or◌}
+use Rattle.laws.specs.Logic.{pick_yes, pick_no, ◌or◌, or_yes, or_no}
 use Rattle.codec.specs.Bytes.{num}
 use Rattle.codec.specs.Layout.{dec_all}
 use Rattle.codec.proofs.Rows.{dec_all-more}
 use Rattle.codec.proofs.Fit.{length-dec_all}
 use Rattle.units.specs.declared.ObjectId.{ObjectId}
 use Rattle.types.specs.declared.kernel.Kernel.{Kernel}
-use Rattle.sound.specs.View.{ids}
+use Rattle.sound.specs.View.{ids, first_ids}
 use Rattle.kernel.specs.NextEvent.{contains}
 use Rattle.pass.specs.Timers.{timer_due}
 use Rattle.pass.specs.Asks.{wait_at_once, unsatisfied, padded, open_object, satisfied_by}
@@ -37,20 +37,6 @@ open_more k s i l r h e f =
     rw (dec_all-more num 4 i s 0, map-append, zero-add, f) in
     let p : set (padded wait_at_once os) (length os) (record { 0 = r.0 }) ≡ padded wait_at_once (os ++ (r.0 ∷ [])) = padded-more wait_at_once os r.0 (omega arith) in
     rw (e, m) (rw n at p)
-
--- ---- whether a list has no object at a place, as `any` tells it
-pub any-none : (l : List ObjectId) → list_any (λ (x : ObjectId). eqb x.0 0) l ≡ contains (ids l) 0
-unfolding contains ◌or◌
-any-none [] = refl
-any-none (x ∷ l) = rw (any-none l) (go (eqb x.0 0) (contains (ids l) 0))
-  where
-    go : (a b : Bool) → a || b ≡ a or b
-    go true b = refl
-    go false b = refl
-
--- ---- the numbers of the first n
-pub first_ids : (n : ℕ) (l : List ObjectId) → take n (ids l) ≡ ids (take n l)
-first_ids n l = take-map (λ (o : ObjectId). o.0) n l
 
 -- ---- the cases of a wait on n handles
 module _ (k : Kernel) (c n : ℕ) (s : List ℕ) (all : Bool) (tick : ℕ) where
@@ -71,3 +57,5 @@ module _ (k : Kernel) (c n : ℕ) (s : List ℕ) (all : Bool) (tick : ℕ) where
   looked h e =
       rw (length-dec_all num 4 n s 0, le-ltb wait_at_once n h, e)
       (satisfied-is k c n (map (open_object k) hs) all (length-map hs (open_object k) ∙ length-dec_all num 4 n s 0) h)
+
+pub ruleset waits = (common_steps, pick_yes, pick_no, or_yes, or_no, many, fires, looked, first_ids)

@@ -11,7 +11,7 @@ ghost use Rattle.lent.specs.Operations as def;
 use codec::Two;
 use lent::questions;
 use pass::Satisfied;
-use types::refusal::Refusal;
+use types::refusal::{self, Refusal};
 use units::Ticks;
 
 fn put_satisfied(answer: &mut [u8; 40], r: Satisfied)
@@ -23,7 +23,8 @@ fn put_satisfied(answer: &mut [u8; 40], r: Satisfied)
     block::record::write_all(answer, 8, &r.objects);
 }
 
-// The same with the refusal itself.
+// What C gets, with the refusal itself.
+#[tactic(auto, using(lent::proofs::Cases::cases), unfolding(lent::specs::Operations::satisfied_now))]
 fn look(
     block: &[u8],
     handles: &[u8],
@@ -31,7 +32,8 @@ fn look(
     wait_all: u32,
     tick: Ticks,
 ) -> Result<(), Refusal>
-    ensures { back (found_in result) (lent block.now [] [] [] answer.new) ≡ def.satisfied_now handles.now wait_all tick.0 (lent block.now [] [] [] answer.old) }
+    ensures { back (found_in result) (lent block.now [] [] [] answer.new)
+        ≡ def.satisfied_now handles.now wait_all tick.0 (lent block.now [] [] [] answer.old) }
 {
     let Some(block) = block.as_array::<16384>() else {
         return Err(Refusal::Length);
@@ -55,10 +57,8 @@ fn look(
 
 // The eight object numbers, unused places 0, and the index that the wait gives.
 pub fn operate(block: &[u8], handles: &[u8], answer: &mut [u8], wait_all: u32, tick: Ticks) -> u32
-    ensures { back result (lent block.now [] [] [] answer.new) ≡ def.satisfied_now handles.now wait_all tick.0 (lent block.now [] [] [] answer.old) }
+    ensures { back result (lent block.now [] [] [] answer.new)
+        ≡ def.satisfied_now handles.now wait_all tick.0 (lent block.now [] [] [] answer.old) }
 {
-    match look(block, handles, answer, wait_all, tick) {
-        Ok(()) => 0,
-        Err(refusal) => u32::from(refusal),
-    }
+    refusal::number(look(block, handles, answer, wait_all, tick))
 }

@@ -27,7 +27,7 @@ fn open_list(b: &Block, handles: &[u8]) -> [ObjectId; WAIT_AT_ONCE]
 fn any_none(list: &[ObjectId]) -> bool
     ensures { result ≡ contains (ids list.now) 0 }
 {
-    list.iter().any(|o| o.0 == 0)
+    list.contains(&ObjectId(0))
 }
 
 fn unsatisfied() -> Satisfied
@@ -40,6 +40,7 @@ fn unsatisfied() -> Satisfied
 }
 
 // A wait on the first n of l; the answer has its unused places too.
+#[tactic(auto, using(crate::proofs::Open::waits))]
 fn satisfied_for(b: &Block, c: u32, l: [ObjectId; WAIT_AT_ONCE], n: usize, all: bool) -> Satisfied
     requires n_le_wait_at_once { n ≤ def.wait_at_once }
     ensures { result ≡ satisfied_in (dec_block b.now) c l n all }
@@ -57,6 +58,7 @@ fn satisfied_for(b: &Block, c: u32, l: [ObjectId; WAIT_AT_ONCE], n: usize, all: 
     }
 }
 
+#[tactic(auto, using(crate::proofs::Open::waits))]
 fn satisfied_by(c: u32, b: &Block, handles: &[u8], all: bool, tick: Ticks) -> Satisfied
     ensures { result ≡ def.satisfied_by (Some c) (dec_block b.now) (words handles.now) all tick.0 }
 {

@@ -1,5 +1,7 @@
 -- A pass by its parts: the tries, the choice, what is found and what is written. Assumes nothing.
-use Rattle.std.specs.Prelude.{Option, Some, None, Ok, Err}
+use Rattle.std.specs.Prelude.{Option, Some, None}
+use Rattle.std.proofs.lemmas.Grind.{common_steps}
+use mir.Val.{bool_byte}
 use mathlib.Core.Path.{◌≡◌, refl, sym, ap, subst, ◌∙◌}
 use mathlib.Core.Bool.{Bool, true, false}
 use mathlib.Core.List.{List, [], ◌∷◌}
@@ -8,14 +10,12 @@ use lib.Dec.{eqb}
 use lib.ListN.{length}
 use Rattle.laws.specs.Logic.{pick, ◌or◌}
 use Rattle.codec.specs.Bytes.{over}
+use Rattle.codec.proofs.Laws.{length-bytes, over-all}
 use Rattle.codec.specs.Layout.{enc_all, dec_as, dec_all}
 use Rattle.types.specs.declared.thread.Thread.{Thread}
 use Rattle.types.specs.declared.object.ObjectStore.{ObjectStore}
 use Rattle.types.specs.declared.kernel.Kernel.{Kernel}
 use Rattle.types.specs.Thread.{option_of}
-use Rattle.types.specs.declared.refusal.Refusal.{Refusal}
-use Rattle.types.specs.declared.refusal.Refusal.TheVariants.{Overflow}
-use Rattle.types.specs.Refusal.{unless_found}
 use Rattle.block.specs.declared.Head.{Head}
 use Rattle.block.specs.Thread.{enc_thread, dec_thread}
 use Rattle.block.specs.Block.{head_at, head_words, enc_block, dec_block}
@@ -41,15 +41,6 @@ use Rattle.scheduler.specs.Turn.{turning, passed, Chooses}
 use Rattle.lent.specs.Operations.{out_of_handles?, finding}
 use Rattle.outcome.specs.Findings.{found_of, parts-finding}
 use Rattle.schedule.specs.Pass.{head_after}
-
--- ---- what the tries answer, v whether a count does not fit
-pub fine : {A : Type 0} (v : Bool) (x y : A) → unless_found (pick v 8 0) x ≡ Ok y → v ≡ false
-fine true x y e = cc
-fine false x y e = refl
-
-pub refused : {A : Type 0} (v : Bool) (x : A) (r : Refusal) → unless_found (pick v 8 0) x ≡ Err r → (v ≡ true) × (r ≡ Overflow)
-refused true x r e = (refl, cc)
-refused false x r e = cc
 
 -- ---- no try makes anything too full
 acquires-full : (os : List ℕ) (s : ObjectStore) (w : ℕ) → (acquires s os w).full ≡ s.full
@@ -115,8 +106,8 @@ module _ (b : List ℕ) (tick : ℕ) where
   none_found e f = sym (pass-finding b tick ∙ rw (e, f))
 
 -- ---- what is written: b is the block before, e that after the tries
-module _ (b e : List ℕ) (tick : ℕ) (d : dec_block e ≡ during (dec_block b) (tried (dec_block b) tick)) (s : sound? e ≡ true) (h : Head) (eh : h ≡ head_at e) (c : Option ℕ) (ec : c ≡ option_of h.a.2 h.a.3)
-    (ts : List Thread) (et : ts ≡ dec_all dec_thread 160 32 e 128) (t : Turned) (g : Chooses ts c (eqb h.b.3 1) tick t) where
+module _ (b e : List ℕ) (tick : ℕ) (d : dec_block e ≡ during (dec_block b) (tried (dec_block b) tick)) (s : sound? e ≡ true) (h : Head) (eh : h ≡ head_at e) (c : Option ℕ) (ec : c ≡ option_of h.current_flag h.current_value)
+    (ts : List Thread) (et : ts ≡ dec_all dec_thread 160 32 e 128) (t : Turned) (g : Chooses ts c (eqb h.relief 1) tick t) where
   abbrev k : Kernel
   k = dec_block b
 
@@ -128,11 +119,11 @@ module _ (b e : List ℕ) (tick : ℕ) (d : dec_block e ≡ during (dec_block b)
 
   current-is : c ≡ k.current_thread
   unfolding dec_block dec_as
-  current-is = ec ∙ (λ i. option_of (eh i).a.2 (eh i).a.3) ∙ ap (λ (z : Kernel). z.current_thread) d
+  current-is = ec ∙ (λ i. option_of (eh i).current_flag (eh i).current_value) ∙ ap (λ (z : Kernel). z.current_thread) d
 
-  relief-is : eqb h.b.3 1 ≡ k.relief
+  relief-is : eqb h.relief 1 ≡ k.relief
   unfolding dec_block dec_as
-  relief-is = (λ i. eqb (eh i).b.3 1) ∙ ap (λ (z : Kernel). z.relief) d
+  relief-is = (λ i. eqb (eh i).relief 1) ∙ ap (λ (z : Kernel). z.relief) d
 
   threads_are : ts ≡ w.threads
   unfolding dec_block
@@ -141,7 +132,7 @@ module _ (b e : List ℕ) (tick : ℕ) (d : dec_block e ≡ during (dec_block b)
   pub pass-is : passed k w.objects t ≡ schedule k tick
   unfolding schedule
   pass-is =
-      let q : turning k c (eqb h.b.3 1) ≡ k = λ i. turning k (current-is i) (relief-is i) in
+      let q : turning k c (eqb h.relief 1) ≡ k = λ i. turning k (current-is i) (relief-is i) in
       subst (λ (z : Kernel). passed z w.objects t ≡ choose z (record { objects = w.objects; threads = ts }) tick) q (g k w.objects)
       ∙ ap (λ (l : List Thread). choose k (record { objects = w.objects; threads = l }) tick) threads_are
 
@@ -149,3 +140,10 @@ module _ (b e : List ℕ) (tick : ℕ) (d : dec_block e ≡ during (dec_block b)
   written_is n =
       ap (λ (z : Head). head_put (over e 128 (enc_all enc_thread t.threads)) (head_after z t.current t.relief)) head-is
       ∙ (put-head (put-threads (subst (Holds e) d (holds e s)) t.threads n) (passed k w.objects t).kernel refl refl refl refl refl).same
+
+-- ---- what is answered
+pub flag-is : (b : Bool) → bool_byte b ≡ pick b 1 0
+flag-is true = refl
+flag-is false = refl
+
+pub ruleset puts = (common_steps, length-bytes, over-all, flag-is)

@@ -15,11 +15,10 @@ ghost use Rattle.schedule.specs.Pass.{head_after};
 
 use block::context::{Bank, Processor};
 use block::{Block, Head};
-use codec::Four;
 use lent::questions;
 use rows::write;
 use scheduler::choose;
-use types::refusal::Refusal;
+use types::refusal::{self, Refusal};
 use units::Ticks;
 
 fn save_at(bank: &mut Bank, t: u32, context: &Processor)
@@ -38,6 +37,7 @@ fn save(bank: &mut Bank, saved: Option<u32>, context: &Processor)
     }
 }
 
+// `save_at` and `save` with source and place changed over: no parameter would say that in fewer lines.
 fn restore_at(context: &mut Processor, t: u32, bank: &Bank)
     ensures { context.new ≡ def.restore_row context.old (Some t) bank.now }
 {
@@ -56,6 +56,7 @@ fn restore(context: &mut Processor, restored: Option<u32>, bank: &Bank)
 }
 
 // The processor goes to its row and comes from one; the answer tells whether the pass switched.
+#[tactic(auto, using(crate::proofs::Passes::puts))]
 fn put_passed(
     bank: &mut Bank,
     processor: &mut Processor,
@@ -79,13 +80,10 @@ fn head_after(h: Head, next: Option<u32>, relief: bool) -> Head
     ensures { result ≡ head_after h next relief }
 {
     Head {
-        a: Four(
-            h.a.0,
-            h.a.1,
-            types::thread::option_flag(next),
-            types::thread::option_value(next),
-        ),
-        b: Four(h.b.0, h.b.1, next.is_none() as u32, relief as u32),
+        current_flag: types::thread::option_flag(next),
+        current_value: types::thread::option_value(next),
+        all_blocked: next.is_none() as u32,
+        relief: relief as u32,
         ..h
     }
 }
@@ -101,16 +99,16 @@ fn try_waits(block: &mut Block, tick: Ticks) -> Result<(), Refusal>
         → dec_block block.new ≡ during (dec_block block.old) (pass.tried (dec_block block.old) tick.0) }
     ensures block_after_2 { (result ≡ Ok tt) → sound? block.new ≡ true }
 {
-    let mut before = [0u8; 16384];
-    codec::copy(&mut before, 0, block);
+    let before = *block;
     let tried = tries::try_waits(block, tick);
     if tried.is_err() {
-        codec::copy(block, 0, &before);
+        *block = before;
     }
     tried
 }
 
 // Timers fire, waits that are over end, and the most urgent thread that can run gets the core.
+#[tactic(auto, using(lent::proofs::Cases::cases), unfolding(lent::specs::Operations::schedule))]
 fn work(
     block: &mut [u8],
     bank: &mut [u8],
@@ -141,16 +139,16 @@ fn work(
     }
     try_waits(block, tick)?;
     let head = block::get_head(block);
-    let current = types::thread::option_of(head.a.2, head.a.3);
+    let current = types::thread::option_of(head.current_flag, head.current_value);
     let tried = block::record::read_all(block, 128);
-    let t = choose::choose(tried, current, head.b.3 == 1, tick);
+    let t = choose::choose(tried, current, head.relief == 1, tick);
     block::record::write_all(block, 128, &t.threads);
     write::put_head(block, head_after(head, t.current, t.relief));
     put_passed(bank, processor, answer, t.saved, t.restored, t.switched);
     Ok(())
 }
 
-// The work as C gets it: 0, or the number of the refusal.
+// The work as C gets it.
 pub fn operate(
     block: &mut [u8],
     bank: &mut [u8],
@@ -161,8 +159,5 @@ pub fn operate(
     ensures { back result (lent block.new bank.new processor.new [] answer.new) ≡ def.schedule tick.0
         (lent block.old bank.old processor.old [] answer.old) }
 {
-    match work(block, bank, processor, answer, tick) {
-        Ok(()) => 0,
-        Err(r) => u32::from(r),
-    }
+    refusal::number(work(block, bank, processor, answer, tick))
 }

@@ -39,7 +39,8 @@ parts k s ts relief c n = record {
   switched = switches c n;
 }
 
-pub switch_is : (k : Kernel) (s : ObjectStore) (ts : List Thread) (relief : Bool) (c n : Option ℕ) → parts k s ts relief c n ≡ switch_as k s ts relief c n
+pub switch_is : (k : Kernel) (s : ObjectStore) (ts : List Thread) (relief : Bool) (c n : Option ℕ)
+    → parts k s ts relief c n ≡ switch_as k s ts relief c n
 unfolding ◌and◌
 switch_is k s ts relief None None = refl
 switch_is k s ts relief None (Some n) = refl
@@ -53,7 +54,17 @@ switch_is k s ts relief (Some c) (Some n) = go (eqb c n)
       switched = not b and not (false and false);
     })
         (pick b
-        (record { kernel = scheduled k s (take_core ts n) (Some n) relief; saved = None; restored = None; switched = false })
-        (record { kernel = scheduled k s (take_core (leave_core ts (Some c)) n) (Some n) relief; saved = Some c; restored = Some n; switched = true }))
+        (record {
+          kernel = scheduled k s (take_core ts n) (Some n) relief;
+          saved = None;
+          restored = None;
+          switched = false;
+        })
+        (record {
+          kernel = scheduled k s (take_core (leave_core ts (Some c)) n) (Some n) relief;
+          saved = Some c;
+          restored = Some n;
+          switched = true;
+        }))
     go true = refl
     go false = refl

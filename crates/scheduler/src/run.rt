@@ -25,7 +25,8 @@ fn marked(t: Thread) -> Thread
     with_run(t, true, t.running_since)
 }
 
-// The current thread has waited if it cannot run.
+// The current thread has waited if it cannot run. This and the three below each change one thread; one function over the
+// change would need in its contract what the change makes of each thread, and be no shorter at its calls.
 #[tactic(auto, using(crate::proofs::Places::mark_here, crate::proofs::Places::mark_far))]
 pub fn mark_waited(ts: &mut [Thread; 32], c: Option<u32>)
     ensures { ts.new ≡ def.mark_waited ts.old c }

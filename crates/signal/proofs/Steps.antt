@@ -21,13 +21,3 @@ module _ {A : Type 0} (d : A) (f : A → Bool) (any : List A → Bool) (none : a
 
   pub any_end : (l : List A) (i : ℕ) → length l ≤ i → any (drop i l) ≡ false
   any_end l i h = rw (drop_of_length-le l h) none
-
--- ---- whether a list has an object
-pub any-contains : (l : List ObjectId) (o : ℕ) → list_any (λ (x : ObjectId). eqb x.0 o) l ≡ contains (ids l) o
-unfolding contains ◌or◌
-any-contains [] o = refl
-any-contains (x ∷ l) o = rw (any-contains l o) (go (eqb x.0 o) (contains (ids l) o))
-  where
-    go : (a b : Bool) → a || b ≡ a or b
-    go true b = refl
-    go false b = refl

@@ -20,7 +20,7 @@ pub fn waits_sync(s: ThreadStatus) -> bool
 pub fn contains_id(l: [ObjectId; WAIT_LIST], o: ObjectId) -> bool
     ensures { result ≡ contains (ids l) o.0 }
 {
-    l.iter().any(|x| x.0 == o.0)
+    l.contains(&o)
 }
 
 // The thread waits on the object.
@@ -64,6 +64,7 @@ pub fn signaled_slot(waited: bool, s: Slot, x: KObject) -> Slot
     }
 }
 
+// `lost_object` does the same to timers, `cancelled` of `timer_calls` stops them: each is the one arm of its kind.
 pub fn cleared_event(x: KObject) -> KObject
     ensures { result ≡ def.cleared_event x }
 {

@@ -1,7 +1,8 @@
 -- "each named object live ..; each count = handles + list places + 1 for a kept thread or process object, at least 1; free chain exactly the dead slots;
 -- every thread number named exists, mutex owners not Dead; a kept object is a thread object naming its own thread, or the process object".
 -- `timers` is the set of live timer slots by definition, so nothing is asked of it.
-use Rattle.std.specs.Prelude.{◌≡◌, refl, Bool, true, false, not, List, [], ◌∷◌, ℕ, ◌+◌, ◌-◌, ◌≤◌, ◌<◌, eqb, leb, ltb, length, get_or, Option, Some, None}
+use Rattle.std.specs.Prelude.{◌≡◌, refl, Bool, true, false, not, List, [], ◌∷◌, ℕ, ◌+◌, ◌-◌, ◌≤◌, ◌<◌, eqb, leb, ltb}
+use Rattle.std.specs.Prelude.{length, get_or, Option, Some, None}
 use Rattle.std.proofs.Common.{ap, sym, subst, ◌∙◌, inl, inr, arith}
 use Rattle.std.proofs.lemmas.List.{length-map}
 use Rattle.std.proofs.Math.ListN.{get_or-eq_default}

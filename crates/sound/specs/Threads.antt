@@ -1,6 +1,7 @@
 -- "Threads at most 32, priorities at most 63, known statuses ..; at most the current thread Running, it never Dead; lists only in waiting threads".
 -- Known statuses are asked by the canonical test of the block.
-use Rattle.std.specs.Prelude.{◌≡◌, Bool, true, false, not, ◌≢◌, List, [], ◌∷◌, ℕ, zero, suc, ◌≤◌, ◌<◌, eqb, leb, ltb, Option, Some, None}
+use Rattle.std.specs.Prelude.{◌≡◌, Bool, true, false, not, ◌≢◌, List, [], ◌∷◌, ℕ, zero, suc, ◌≤◌, ◌<◌, eqb, leb, ltb}
+use Rattle.std.specs.Prelude.{Option, Some, None}
 use Rattle.std.proofs.Common.{ap, arith}
 use Rattle.laws.specs.Logic.{pick, ◌and◌}
 use Rattle.laws.specs.Test.{Test, t-yes, t-no, t_never, t-eq, t-le, t-lt, t-and, t_as}

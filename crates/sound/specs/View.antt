@@ -1,7 +1,9 @@
 -- What the clauses of question 2 look at: columns of the tables, and the cells of slots.
-use Rattle.std.specs.Prelude.{◌≡◌, refl, Bool, false, ◌≢◌, List, [], map, ℕ, zero, suc, ◌-◌, ◌≤◌, ◌<◌, length, get_or, None}
+use Rattle.std.specs.Prelude.{◌≡◌, refl, Bool, false, ◌≢◌, List, [], map, ℕ, zero, suc, ◌-◌, ◌≤◌, ◌<◌, length, get_or}
+use Rattle.std.specs.Prelude.{take, None}
 use Rattle.std.proofs.Common.{ap, sym, ◌∙◌, inl, inr, arith}
 use Rattle.std.proofs.Math.ListN.{get_or-map, get_or-eq_default}
+use Rattle.std.proofs.lemmas.List.{take-map}
 use Rattle.laws.specs.Count.{at}
 use Rattle.laws.specs.Numbers.{all_to, t-all_to, cell-cases}
 use Rattle.laws.specs.Test.{Test, t_as}
@@ -41,6 +43,10 @@ waiter_addresses l = map (λ (w : Waiter). w.address) l
 
 abbrev pub ids : List ObjectId → List ℕ
 ids l = map (λ (o : ObjectId). o.0) l
+
+-- the first n numbers are those of the first n objects
+pub first_ids : (l : List ObjectId) (n : ℕ) → ids (take n l) ≡ take n (ids l)
+first_ids l n = sym (take-map (λ (o : ObjectId). o.0) n l)
 
 -- the object of each handle
 abbrev pub handled : List HandleEntry → List ℕ

@@ -1,5 +1,6 @@
 -- A new thread keeps a state sound, in the place of an ended thread or in the next one.
-use Rattle.std.specs.Prelude.{◌≡◌, refl, Bool, true, false, ◌≢◌, List, ℕ, zero, suc, ◌+◌, ◌^◌, ◌≤◌, ◌<◌, eqb, leb, ltb, length, set, Option, Some, None}
+use Rattle.std.specs.Prelude.{◌≡◌, refl, Bool, true, false, ◌≢◌, List, ℕ, zero, suc, ◌+◌, ◌^◌, ◌≤◌, ◌<◌, eqb, leb, ltb}
+use Rattle.std.specs.Prelude.{length, set, Option, Some, None}
 use Rattle.std.proofs.Common.{sym, subst, ◌∙◌, inl, inr, arith, length-set, leb-false, ltb-true, ltb-false}
 use Rattle.std.proofs.lemmas.Bool.{eqb-false, lt-leb}
 use Rattle.laws.specs.Logic.{pick, pick_no, ◌and◌, ◌or◌, and-true, or-false, lt-cases}
@@ -145,7 +146,8 @@ ended-dead k h l =
 pub new_zeros : (entry stack priority processor tls guest : ℕ) → Zeros (ids (new_thread entry stack priority processor tls guest).wait_objects)
 new_zeros entry stack priority processor tls guest = no-objects
 
-pub new-place : (n : ℕ) (c : Option ℕ) (i entry stack priority processor tls guest : ℕ) → i < n → priority ≤ 63 → PlaceOk n c i (new_thread entry stack priority processor tls guest)
+pub new-place : (n : ℕ) (c : Option ℕ) (i entry stack priority processor tls guest : ℕ) → i < n → priority ≤ 63
+    → PlaceOk n c i (new_thread entry stack priority processor tls guest)
 new-place n c i entry stack priority processor tls guest l p = record {
   used = λ u. record { priority = p; run = tt; list = new_zeros entry stack priority processor tls guest; only = refl };
   unused = λ u. absurd (omega arith);

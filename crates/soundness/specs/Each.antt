@@ -61,13 +61,15 @@ module _ (P : KObject → Type 0) where
   each-current None s p h = h
   each-current (Some t) s p h = each-thread_object s t p h
 
-  each-resolve_if : (a b : Bool) (c : Option ℕ) (t : HandleTable) (s : ObjectStore) (h : ℕ) → OfCurrent c → P Process → Each P s
+  each-resolve_if : (a b : Bool) (c : Option ℕ) (t : HandleTable) (s : ObjectStore) (h : ℕ) → OfCurrent c → P Process
+      → Each P s
       → Each P (pick a (of_current s c) (pick b (record { object = (process_object s).process_object; store = process_object s }) (record { object = record { 0 = object_of t h }; store = s }))).store
   each-resolve_if true b c t s h p q e = each-current c s p e
   each-resolve_if false true c t s h p q e = each-process_object s q e
   each-resolve_if false false c t s h p q e = e
 
-  pub each-resolve : (c : Option ℕ) (t : HandleTable) (s : ObjectStore) (h : ℕ) → OfCurrent c → P Process → Each P s → Each P (resolve c t s h).store
+  pub each-resolve : (c : Option ℕ) (t : HandleTable) (s : ObjectStore) (h : ℕ) → OfCurrent c → P Process → Each P s
+      → Each P (resolve c t s h).store
   unfolding resolve
   each-resolve c t s h p q e = each-resolve_if (eqb h 0xFFFF8000) (eqb h 0xFFFF8001) c t s h p q e
 

@@ -1,5 +1,6 @@
 -- Widths: each primitive keeps every number of the component within its field.
-use Rattle.std.specs.Prelude.{◌≡◌, refl, Bool, List, [], ◌∷◌, ◌++◌, map, ℕ, zero, suc, ◌+◌, ◌^◌, ◌<◌, eqb, leb, set, replicate, Option, Some, None}
+use Rattle.std.specs.Prelude.{◌≡◌, refl, Bool, List, [], ◌∷◌, ◌++◌, map, ℕ, zero, suc, ◌+◌, ◌^◌, ◌<◌, eqb, leb, set}
+use Rattle.std.specs.Prelude.{replicate, Option, Some, None}
 use Rattle.std.proofs.Math.Bool.{true, false}
 use Rattle.std.proofs.Common.{arith}
 use Rattle.std.proofs.Math.Dec.{ltb}
@@ -308,7 +309,8 @@ resolve-fits_if true b c t s h w f = current-fits c s w f
 resolve-fits_if false true c t s h w f = process_object-fits s f
 resolve-fits_if false false c t s h w f = f
 
-pub resolve-fits : (c : Option ℕ) (t : HandleTable) (s : ObjectStore) (h : ℕ) → CurrentFits c → StoreFits s → StoreFits (resolve c t s h).store
+pub resolve-fits : (c : Option ℕ) (t : HandleTable) (s : ObjectStore) (h : ℕ) → CurrentFits c → StoreFits s
+    → StoreFits (resolve c t s h).store
 unfolding resolve
 resolve-fits c t s h w f = resolve-fits_if (eqb h 0xFFFF8000) (eqb h 0xFFFF8001) c t s h w f
 

@@ -1,5 +1,6 @@
 -- Kept objects and `resolve`: what is known of the object found, and what of the store stays.
-use Rattle.std.specs.Prelude.{◌≡◌, refl, Bool, true, false, ◌≢◌, List, ℕ, ◌+◌, ◌≤◌, ◌<◌, eqb, length, set, get_or, Option, Some, None}
+use Rattle.std.specs.Prelude.{◌≡◌, refl, Bool, true, false, ◌≢◌, List, ℕ, ◌+◌, ◌≤◌, ◌<◌, eqb, length, set, get_or}
+use Rattle.std.specs.Prelude.{Option, Some, None}
 use Rattle.std.proofs.Math.Path.{ap}
 use Rattle.std.proofs.Common.{sym, subst, ◌∙◌, inl, inr, arith, eqb-true, length-set, get_or-set_same, get_or-set_other}
 use Rattle.std.proofs.lemmas.Bool.{eqb-false}
@@ -159,11 +160,13 @@ abbrev pub CurrentIn : Option ℕ → Type 0
 CurrentIn None = Unit {0}
 CurrentIn (Some t) = t < 32
 
-current-ok : (c : Option ℕ) (s : ObjectStore) (f : ℕ → ℕ) → CurrentIn c → Fine s f → (of_current s c).store.full ≡ false → Found s f (of_current s c).store (of_current s c).object.0
+current-ok : (c : Option ℕ) (s : ObjectStore) (f : ℕ → ℕ) → CurrentIn c → Fine s f
+    → (of_current s c).store.full ≡ false → Found s f (of_current s c).store (of_current s c).object.0
 current-ok None s f l h g = found_none s f 0 (h g) (λ w. absurd (omega arith))
 current-ok (Some t) s f l h g = (thread_object-ok s f t l h g).0
 
-resolve_if : (p q : Bool) (c : Option ℕ) (t : HandleTable) (s : ObjectStore) (h : ℕ) (f : ℕ → ℕ) → CurrentIn c → ((o : ℕ) → 0 < o → count o (handled t.entries) ≤ f o) → Fine s f
+resolve_if : (p q : Bool) (c : Option ℕ) (t : HandleTable) (s : ObjectStore) (h : ℕ) (f : ℕ → ℕ) → CurrentIn c
+    → ((o : ℕ) → 0 < o → count o (handled t.entries) ≤ f o) → Fine s f
     → (pick p (of_current s c) (pick q (record { object = (process_object s).process_object; store = process_object s }) (record { object = record { 0 = object_of t h }; store = s }))).store.full ≡ false
     → Found s f (pick p (of_current s c) (pick q (record { object = (process_object s).process_object; store = process_object s }) (record { object = record { 0 = object_of t h }; store = s }))).store
     (pick p (of_current s c) (pick q (record { object = (process_object s).process_object; store = process_object s }) (record { object = record { 0 = object_of t h }; store = s }))).object.0
@@ -172,7 +175,8 @@ resolve_if false true c t s h f l n k g = (process_object-ok s f k g).0
 resolve_if false false c t s h f l n k g = found_none s f (object_of t h) (k g) (λ w. omega (arith, handle_count t h w, n (object_of t h) w))
 
 -- the names of handles are among f
-pub resolve-ok : (c : Option ℕ) (t : HandleTable) (s : ObjectStore) (h : ℕ) (f : ℕ → ℕ) → CurrentIn c → ((o : ℕ) → 0 < o → count o (handled t.entries) ≤ f o) → Fine s f
+pub resolve-ok : (c : Option ℕ) (t : HandleTable) (s : ObjectStore) (h : ℕ) (f : ℕ → ℕ) → CurrentIn c
+    → ((o : ℕ) → 0 < o → count o (handled t.entries) ≤ f o) → Fine s f
     → (resolve c t s h).store.full ≡ false → Found s f (resolve c t s h).store (resolve c t s h).object.0
 unfolding resolve
 resolve-ok c t s h f l n k g = resolve_if (eqb h 0xFFFF8000) (eqb h 0xFFFF8001) c t s h f l n k g
@@ -204,7 +208,8 @@ resolve-full_if true q c t s h e = current-full c s e
 resolve-full_if false true c t s h e = process_object-full s e
 resolve-full_if false false c t s h e = e
 
-pub resolve-full : (c : Option ℕ) (t : HandleTable) (s : ObjectStore) (h : ℕ) → (resolve c t s h).store.full ≡ false → s.full ≡ false
+pub resolve-full : (c : Option ℕ) (t : HandleTable) (s : ObjectStore) (h : ℕ) → (resolve c t s h).store.full ≡ false
+    → s.full ≡ false
 unfolding resolve
 resolve-full c t s h e = resolve-full_if (eqb h 0xFFFF8000) (eqb h 0xFFFF8001) c t s h e
 

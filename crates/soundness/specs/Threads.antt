@@ -48,14 +48,16 @@ module _ (n n' : ℕ) (c c' : Option ℕ) (ts : List th.Thread) (i : ℕ) (v : t
 
 -- ---- lists
 -- a thread that is not waiting on objects has no list
-pub no-list : (n : ℕ) (c : Option ℕ) (i : ℕ) (t : th.Thread) → t.wait_count ≡ 0 → PlaceOk n c i t → Zeros (ids t.wait_objects)
+pub no-list : (n : ℕ) (c : Option ℕ) (i : ℕ) (t : th.Thread) → t.wait_count ≡ 0 → PlaceOk n c i t
+    → Zeros (ids t.wait_objects)
 no-list n c i t e p =
     elim (lt-cases i n) [
       | inl l ↦ subst (λ (k : ℕ). Places k (ids t.wait_objects)) e (p.used l).list
       | inr l ↦ (p.unused l).1
     ]
 
-pub dead-list : (n : ℕ) (c : Option ℕ) (i : ℕ) (t : th.Thread) → is_dead t.status ≡ true → PlaceOk n c i t → Zeros (ids t.wait_objects)
+pub dead-list : (n : ℕ) (c : Option ℕ) (i : ℕ) (t : th.Thread) → is_dead t.status ≡ true → PlaceOk n c i t
+    → Zeros (ids t.wait_objects)
 dead-list n c i t d p =
     elim (lt-cases i n) [
       | inl l ↦ subst (λ (k : ℕ). Places k (ids t.wait_objects)) (count-zero t.status t.wait_count d (p.used l).only) (p.used l).list

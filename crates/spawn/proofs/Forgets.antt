@@ -1,4 +1,5 @@
 -- A block in which the thread that a place had is forgotten. Assumes nothing.
+use Rattle.std.proofs.lemmas.Grind.{common_steps}
 use mathlib.Core.Path.{◌≡◌, refl, sym, ap, subst, ◌∙◌}
 use mathlib.Core.Logic.{◌≢◌}
 use mathlib.Core.Bool.{false, not}
@@ -20,7 +21,6 @@ use Rattle.types.specs.declared.kernel.Kernel.{Kernel}
 use Rattle.types.specs.Object.{head_of}
 use Rattle.block.specs.declared.Head.{Head}
 use Rattle.block.specs.Table.{enc_waiter}
-use Rattle.block.specs.Thread.{four}
 use Rattle.block.specs.Block.{head_at, head_words, dec_block}
 use Rattle.sound.specs.View.{no_slot, waiter_nexts}
 use Rattle.sound.specs.Objects.{kept_at}
@@ -35,7 +35,8 @@ use Rattle.thread.specs.Threads.{with_threads, let_go}
 use Rattle.rows.specs.Rows.{slot_put, kept_put, head_put}
 use Rattle.rows.specs.Holds.{Holds, put-kept, put-waiters, put-head}
 use Rattle.rows.specs.Slots.{before, slotted, put_holds, SlotsFrom, from_next, from-put}
-use Rattle.release.specs.Encoded.{Encoded, encoded-holds, encoded-head, held-state, held-encoded, store-fits, stored_fits}
+use Rattle.release.specs.Encoded.{Encoded, sound-encoded, encoded-holds, encoded-head}
+use Rattle.release.specs.Encoded.{held-state, held-encoded, store-fits, stored_fits}
 
 -- the state k with other objects
 abbrev with : Kernel → ObjectStore → Kernel
@@ -117,7 +118,7 @@ module _ (s : List ℕ) (t : ℕ) where
 
   -- e is the block after the slots, w the records
   pub dropped : (i : ℕ) (e : List ℕ) (ws : List Waiter) (free : ℕ) → 128 ≤ i → DropTo i e ws free → Encoded s → length ws ≡ 64 → (h : Head) → h ≡ head_at s
-      → let x = head_put (over e 12416 (enc_all enc_waiter ws)) (record { a = h.a; b = h.b; c = four h.c.0 free h.c.2 h.c.3; d = h.d }) in
+      → let x = head_put (over e 12416 (enc_all enc_waiter ws)) (record h { free_waiter = free }) in
       (dec_block x ≡ with (dec_block s) (drop_thread 128 1 t (dec_block s).objects)) × Encoded x
   dropped i e ws free l g en n h eh =
       let k = dec_block s in
@@ -127,3 +128,5 @@ module _ (s : List ℕ) (t : ℕ) where
       let a = put-head (put-waiters g.holds ws n) (with k q) refl refl refl refl refl in
       let f = stored_fits k en.fits q (subst StoreFits (sym d) (drop_thread-fits 128 1 t k.objects (store-fits k en.fits))) a.sizes en.fits.clean.2 en.fits.clean.3 in
       rw w (held-state _ _ a f ∙ ap (with k) d, held-encoded _ _ a f)
+
+pub ruleset forgets = (common_steps, sound-encoded, none_kept, unkept_in, kept-gone)

@@ -1,8 +1,9 @@
 -- A block that holds a state, with a new thread written into it; what is found of a new thread. Assumes nothing.
+use Rattle.std.proofs.lemmas.Grind.{common_steps}
 use mathlib.Core.Path.{◌≡◌, refl, ap, subst, ◌∙◌}
 use mathlib.Core.Bool.{Bool, true, false}
 use mathlib.Core.List.{List}
-use Prim.Native.Nat.{ℕ, min}
+use Prim.Native.Nat.{ℕ, ◌+◌, ◌<◌, min, max}
 use Rattle.std.proofs.Common.{inl, inr, arith, lt-ltb, le-ltb}
 use lib.Dec.{eqb, leb, ltb}
 use Rattle.laws.specs.Logic.{pick, ◌or◌, lt-cases}
@@ -51,16 +52,23 @@ module _ (e : List ℕ) (k : Kernel) (entry stack priority processor : ℕ) wher
   -- with the head h, the number id, the slot tls, n the threads there were
   pub made : Encoded e → (id : ℕ) → id ≡ ended_thread k → (tls : ℕ) → tls ≡ tls_slot k → (n : ℕ) → n ≡ k.thread_count
       → dec_block e ≡ with_threads k k.threads (pick (ltb id n) (forget_thread k.objects id) k.objects) → (h : Head) → h ≡ head_at e
-      → Holds (head_put (thread_put e id (new_thread entry stack (least priority 63) processor tls h.b.1)) (head_made h (ltb id n) tls)) (create_thread k entry stack priority processor)
+      → Holds (head_put (thread_put e id (new_thread entry stack (least priority 63) processor tls h.next_guest_id)) (head_made h (ltb id n) tls)) (create_thread k entry stack priority processor)
   made en id ei tls et n en' d h eh =
       let q : dec_block e ≡ with_threads k k.threads store = rw (ei, en') at d in
       let w : h ≡ head_words (with_threads k k.threads store) = eh ∙ encoded-head e en ∙ ap head_words q in
       rw (w, ei, et, en') (unfolded (subst (Holds e) q (encoded-holds e en)))
 
-pub min-least : (a b : ℕ) → min a b ≡ least a b
-min-least a b = elim (lt-cases a b) [
-  | inl h ↦ rw (lt-ltb a b h) (omega arith)
-  | inr h ↦ rw (le-ltb a b h) (omega arith)
+-- ---- the next TLS slot to be given out, and the next guest id
+pub next-slot : (tls n : ℕ) → max n (tls + 1) ≡ pick (ltb tls n) n (tls + 1)
+next-slot tls n = elim (lt-cases tls n) [
+  | inl h ↦ rw (lt-ltb tls n h) (omega arith)
+  | inr h ↦ rw (le-ltb tls n h) (omega arith)
+]
+
+pub next-id : (n : ℕ) → n < 4294967296 → min (n + 1) 4294967295 ≡ pick (ltb n 4294967295) (n + 1) n
+next-id n w = elim (lt-cases n 4294967295) [
+  | inl h ↦ rw (lt-ltb n 4294967295 h) (omega arith)
+  | inr h ↦ rw (le-ltb n 4294967295 h) (omega arith)
 ]
 
 -- ---- what is found
@@ -98,3 +106,5 @@ create-finding b entry stack priority processor =
     let k = dec_block b in
     let r = ltb (ended_thread k) k.thread_count in
     found-parts (leb 32 (ended_thread k)) (leb 4294967295 k.next_guest_id) _ _ (out_of_handles? k) (forget_full r k.objects (ended_thread k)) (forget_overflow r k.objects (ended_thread k))
+
+pub ruleset heads = (common_steps, next-slot, next-id)

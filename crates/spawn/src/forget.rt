@@ -9,12 +9,12 @@ ghost use Rattle.thread.specs.Threads.{with_threads, let_go, forget_thread};
 ghost use Rattle.release.specs.Encoded.{Encoded};
 
 use block::{Block, Head, record};
-use codec::Four;
 use object::waiters;
 use rows::{read, write};
 use units::ObjectId;
 
 // The kept object.
+#[tactic(auto, using(crate::proofs::Forgets::forgets))]
 fn let_go(block: &mut Block, t: u32)
     requires encoded { Encoded block.old }
     ensures block_after { dec_block block.new ≡ with_threads (dec_block block.old) (dec_block block.old).threads (let_go (dec_block block.old).objects t) }
@@ -35,9 +35,8 @@ fn drop_records(block: &mut Block, t: u32)
     ensures encoded_2 { Encoded block.new }
 {
     let head = block::get_head(block);
-    let c = head.c;
     let mut ws = record::read_all(block, 12416);
-    let mut free = c.1;
+    let mut free = head.free_waiter;
     for i in 0..128 {
         let old = record::slot_at(block, i);
         let first = types::object::head_of(old.object);
@@ -55,12 +54,13 @@ fn drop_records(block: &mut Block, t: u32)
     write::put_head(
         block,
         Head {
-            c: Four(c.0, free, c.2, c.3),
+            free_waiter: free,
             ..head
         },
     );
 }
 
+#[tactic(auto, using(crate::proofs::Forgets::forgets), unfolding(thread::specs::Threads::forget_thread))]
 pub fn forget_if(block: &mut Block, reused: bool, t: u32)
     requires block_value { sound? block.old ≡ true }
     ensures block_after { dec_block block.new ≡ with_threads (dec_block block.old) (dec_block block.old).threads (pick reused (forget_thread (dec_block block.old).objects t) (dec_block block.old).objects) }

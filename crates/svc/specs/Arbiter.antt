@@ -1,6 +1,7 @@
 -- `create_address_arbiter` and `arbitrate_address` of svc.rs.
 use Rattle.units.specs.declared.Ticks.{Ticks}
-use Rattle.std.specs.Prelude.{Bool, true, false, not, List, [], ◌∷◌, ◌++◌, ℕ, suc, eqb, ltb, length, set, Option, Some, None}
+use Rattle.std.specs.Prelude.{Bool, true, false, not, List, [], ◌∷◌, ◌++◌, ℕ, suc, eqb, ltb, length, set, Option, Some}
+use Rattle.std.specs.Prelude.{None}
 use Rattle.laws.specs.Logic.{pick, ◌and◌, ◌or◌}
 use Rattle.units.specs.Ticks.{nanos_to_ticks}
 use Rattle.types.specs.declared.thread.ThreadStatus.{ThreadStatus}
@@ -117,7 +118,8 @@ has_timeout DecrementAndWaitIfLessThanWithTimeout = true
 
 -- a time-out of 0 counts, a negative one waits for good
 abbrev pub park_time : ArbitrationType → ℕ → Option Ticks
-park_time kind nanos = pick (has_timeout kind and not (negative nanos)) (Some (nanos_to_ticks (record { 0 = nanos }))) None
+park_time kind nanos = pick (has_timeout kind and not (negative nanos)) (Some (nanos_to_ticks (record { 0 = nanos })))
+    None
 
 -- an older wait's result stays
 abbrev pub parked : Thread → ℕ → Option Ticks → Thread

@@ -57,7 +57,8 @@ sleep_ticks k nanos tick =
 -- the current thread counts as running since the tick
 abbrev pub runs_since : Option ℕ → Kernel → ℕ → Kernel
 runs_since None k tick = k
-runs_since (Some c) k tick = thread.with_threads k (set k.threads c (with_run (thread_at k.threads c) (thread_at k.threads c).waited tick)) k.objects
+runs_since (Some c) k tick = thread.with_threads k
+    (set k.threads c (with_run (thread_at k.threads c) (thread_at k.threads c).waited tick)) k.objects
 
 abbrev pub sleep_for : Option Ticks → Kernel → ℕ → Kernel
 sleep_for None k tick = runs_since k.current_thread k tick

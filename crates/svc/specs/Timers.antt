@@ -17,7 +17,8 @@ use Rattle.svc.specs.Call.{done, answers, invalid_handle, with_objects, pair, ne
 
 -- ---- `create_timer`: r1 reset type; it is stopped
 unfoldable pub create_timer : Kernel → Registers → Served
-create_timer k r = create_object k (Timer (record { reset_type = reset_from_raw r.r1; signaled = false; fire_at = None; interval = record { 0 = 0 } }))
+create_timer k r = create_object k
+    (Timer (record { reset_type = reset_from_raw r.r1; signaled = false; fire_at = None; interval = record { 0 = 0 } }))
 
 -- timers that came due by the tick have fired
 abbrev pub caught_up : Kernel → ℕ → Kernel
@@ -59,7 +60,8 @@ cancelled (Thread t) = Thread t
 cancelled (Event e) = Event e
 cancelled (Mutex m) = Mutex m
 cancelled (Semaphore s) = Semaphore s
-cancelled (Timer t) = Timer (record { reset_type = t.reset_type; signaled = t.signaled; fire_at = None; interval = t.interval })
+cancelled (Timer t) = Timer
+    (record { reset_type = t.reset_type; signaled = t.signaled; fire_at = None; interval = t.interval })
 cancelled (AddressArbiter a) = AddressArbiter a
 cancelled Process = Process
 cancelled ResourceLimit = ResourceLimit

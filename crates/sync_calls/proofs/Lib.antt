@@ -2,3 +2,4 @@
 pub mod Words
 pub mod Found
 pub mod Opened
+pub mod Waited

@@ -33,6 +33,7 @@ pub fn create_event(block: &mut Block, r: Registers) -> Result<Outcome, Refusal>
 }
 
 // Whether a thread waits on the object.
+#[tactic(auto, using(crate::proofs::Waited::waiting))]
 fn waited_sync(block: &Block, o: ObjectId) -> bool
     ensures { result ≡ sig.waited_sync (dec_block block.now).threads o.0 }
 {
@@ -62,7 +63,7 @@ pub fn signal_event(block: &mut Block, r: Registers) -> Result<Outcome, Refusal>
 {
     let o = open::resolve(block, Handle(r.r0))?;
     if o.0 == 0 {
-        return Ok(outcome::answers(Answer::UnknownHandle));
+        return Ok(Outcome::from(Answer::UnknownHandle));
     }
     put_signaled(block, o);
     Ok(outcome::done())
@@ -76,7 +77,8 @@ fn put_cleared(block: &mut Block, o: ObjectId)
     change::content(block, o, x, signal::event::cleared_event(x.object));
 }
 
-// r0 handle; done for an object of another kind too.
+// r0 handle; done for an object of another kind too. `signal_event` opens the handle alike; one function over the
+// change would look for waiters here too, or lend the block to a closure, with what it does to it in its contract.
 pub fn clear_event(block: &mut Block, r: Registers) -> Result<Outcome, Refusal>
     requires block_value { sound? block.old ≡ true }
     ensures value { result ≡ outcome (def.clear_event (dec_block block.old) r) }
@@ -84,7 +86,7 @@ pub fn clear_event(block: &mut Block, r: Registers) -> Result<Outcome, Refusal>
 {
     let o = open::resolve(block, Handle(r.r0))?;
     if o.0 == 0 {
-        return Ok(outcome::answers(Answer::UnknownHandle));
+        return Ok(Outcome::from(Answer::UnknownHandle));
     }
     put_cleared(block, o);
     Ok(outcome::done())

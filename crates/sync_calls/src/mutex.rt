@@ -60,7 +60,7 @@ pub fn release_mutex(block: &mut Block, r: Registers) -> Result<Outcome, Refusal
     let o = open::resolve(block, Handle(r.r0))?;
     let x = read::slot_at(block, o);
     let KObject::Mutex(m) = x.object else {
-        return Ok(outcome::answers(Answer::UnknownHandle));
+        return Ok(Outcome::from(Answer::UnknownHandle));
     };
     change::content(block, o, x, KObject::Mutex(unlocked(m)));
     Ok(outcome::done())

@@ -47,7 +47,7 @@ pub fn release_semaphore(block: &mut Block, r: Registers) -> Result<Outcome, Ref
     let o = open::resolve(block, Handle(r.r1))?;
     let x = read::slot_at(block, o);
     let KObject::Semaphore(s) = x.object else {
-        return Ok(outcome::answers(Answer::UnknownHandle));
+        return Ok(Outcome::from(Answer::UnknownHandle));
     };
     let Some(after) = released(s, r.r2) else {
         return Err(Refusal::Overflow);

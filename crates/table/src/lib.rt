@@ -10,6 +10,7 @@ ghost use Rattle.svc.specs.Table as def;
 
 use svc::CallRow;
 
+// By the numbers of the guest's interface, which `known` and `row` are asked with.
 const CALLS: [CallRow; 21] = [
     // CreateThread
     CallRow {

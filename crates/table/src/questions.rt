@@ -12,7 +12,8 @@ use svc::Registers;
 use types::refusal::Refusal;
 use types::thread::WAIT_COUNT;
 
-// How many words a call reads at r1.
+// How many words a call reads at r1. Guest calls have the numbers of the guest's interface, here and above: what is
+// public promises something of every number.
 #[tactic(auto, using(laws::specs::Logic::and_yes, laws::specs::Logic::and_no))]
 pub fn words_read(number: u32, r: Registers) -> u32
     ensures { result ≡ def.words_read number r }
@@ -27,13 +28,11 @@ pub fn words_read(number: u32, r: Registers) -> u32
     }
 }
 
+#[tactic(auto, using(crate::proofs::Rows::asks))]
 fn is_running_at(block: &Block, c: u32) -> bool
     ensures { result ≡ is_running (thread_at (dec_block block.now).threads c).status }
 {
-    if 32 <= c {
-        return false;
-    }
-    pick::is_running(read::thread_at(block, c).status)
+    c < 32 && pick::is_running(read::thread_at(block, c).status)
 }
 
 fn runs_as(current: Option<u32>, block: &Block) -> bool
@@ -43,6 +42,7 @@ fn runs_as(current: Option<u32>, block: &Block) -> bool
 }
 
 // Question 4: there is a current thread, Running.
+#[tactic(auto, using(crate::proofs::Rows::asks))]
 pub fn runs(block: &Block) -> bool
     ensures { result ≡ def.runs? (dec_block block.now) }
 {
@@ -50,6 +50,7 @@ pub fn runs(block: &Block) -> bool
 }
 
 // Question 5: no more handles than a thread's list has places.
+#[tactic(auto, using(crate::proofs::Rows::asks))]
 fn too_many(number: u32, r: Registers) -> bool
     ensures { result ≡ def.too_many? number r }
 {
@@ -64,6 +65,7 @@ fn in_window(base: u32, len: u64, a: u32, n: u32) -> bool
 }
 
 // Question 6: the words that the call reads are in the window.
+#[tactic(auto, using(crate::proofs::Rows::asks))]
 fn outside(base: u32, len: u64, number: u32, r: Registers) -> bool
     ensures { result ≡ def.outside? base len number r }
 {
@@ -71,7 +73,8 @@ fn outside(base: u32, len: u64, number: u32, r: Registers) -> bool
     n != 0 && !in_window(base, len, r.r1, n)
 }
 
-// Questions 3 to 6, the first that says no first.
+// Questions 3 to 6, the first that says no first. The window is told by two numbers, as C gives it and as the questions
+// are defined.
 #[tactic(auto, unfolding(svc::specs::Dispatch::refusal))]
 pub fn allowed(base: u32, len: u64, number: u32, r: Registers, block: &Block) -> Result<(), Refusal>
     ensures { result ≡ unless_found (def.refusal base len number r (dec_block block.now)) tt }

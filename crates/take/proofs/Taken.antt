@@ -5,6 +5,7 @@ use mathlib.Core.List.{List, [], ◌∷◌}
 use Prim.Native.Nat.{ℕ}
 use Rattle.laws.specs.Logic.{pick, ◌or◌, or-end, or-false}
 use Rattle.std.specs.Prelude.{Ok, Err}
+use Rattle.std.proofs.lemmas.Grind.{common_steps}
 use Rattle.types.specs.Refusal.{unless_found}
 use Rattle.types.specs.declared.refusal.Refusal.{Refusal}
 use Rattle.types.specs.declared.refusal.Refusal.TheVariants.{Overflow}
@@ -23,6 +24,7 @@ use Rattle.thread.specs.Threads.{with_threads}
 use Rattle.rows.specs.Rows.{slot_put}
 use Rattle.rows.specs.Holds.{Holds, holds, put-slot}
 use Rattle.release.specs.Encoded.{held-sound}
+use Rattle.release.proofs.Lists.{list-all}
 use Rattle.pass.specs.Signal.{acquired, acquire_over, with_overflow, acquire, acquires}
 use Rattle.passing.specs.Signal.{acquires-sticks, acquire-parts}
 
@@ -100,3 +102,7 @@ module _ (k : Kernel) (os : List ℕ) (w : ℕ) where
   pub take-none-over : (b : List ℕ) → Taking b [] → (acquires k.objects os w).overflow ≡ false
   unfolding acquires dec_block
   take-none-over b g = sym (ap (λ (z : Kernel). z.objects.overflow) g.goal)
+
+pub ruleset takes = (common_steps, over-is, taken)
+
+pub ruleset lists = (common_steps, list-all, take-end, take-none-over)

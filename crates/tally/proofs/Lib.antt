@@ -1,2 +1,3 @@
 -- The laws that the proofs of `tally` cite.
 pub mod Held
+pub mod Tests

@@ -25,6 +25,7 @@ module _ (nx : List ℕ) (left h : ℕ) where
   walk-end (inr p) = walk-out nx left h p.1
 
   pub has-step : (ts ad : List ℕ) (t a : ℕ) → left ≢ 0 → h ≢ 0
-      → has? ts ad t a (walk nx left h) ≡ (eqb (at ts h) t and eqb (at ad h) a) or has? ts ad t a (walk nx (left - 1) (at nx h))
+      → has? ts ad t a (walk nx left h) ≡ (eqb (at ts h) t and eqb (at ad h) a)
+      or has? ts ad t a (walk nx (left - 1) (at nx h))
   unfolding has?
   has-step ts ad t a p q = rw (walk-go nx left h p q)

@@ -23,5 +23,6 @@ module _ {A B : Type 0} (f : A → B) where
           let b : take i r ≡ map f (take i l) = cc in
           rw (a, go l r i (omega arith) (omega arith) b)
 
-  pub map-done : (l : List A) (r : List B) (i : ℕ) → length l ≤ i → length r ≤ i → take i r ≡ map f (take i l) → r ≡ map f l
+  pub map-done : (l : List A) (r : List B) (i : ℕ) → length l ≤ i → length r ≤ i → take i r ≡ map f (take i l)
+      → r ≡ map f l
   map-done l r i h k e = sym (take_all i r k) ∙ e ∙ rw (take_all i l h)

@@ -1,5 +1,5 @@
 // Counting into an array: how often each number is named.
-#![tactic(auto)]
+#![tactic(auto, using(crate::proofs::Tests::steps))]
 
 pub mod chain;
 pub mod place;
@@ -22,14 +22,16 @@ pub fn bump_at(c: &mut [u32; 129], x: u32)
     }
 }
 
-// What a number is counted as: 0 names no object, and is counted as a number that has no place.
+// What a number is counted as: 0 names no object, and is counted as a number that has no place. No option: `bump_at`
+// passes over such a number, as over any other past the places.
 pub fn name(x: u32) -> u32
     ensures { result ≡ name_of x }
 {
     if x == 0 { 129 } else { x }
 }
 
-// One more for each object of one list. It differs from the next by one call, which a closure would only hide.
+// One more for each object of one list. It differs from the next by one call; with that call as a closure, the contract
+// would have to say what the closure makes of each number, and be longer than both.
 pub fn tally_list(c: &mut [u32; 129], l: [ObjectId; WAIT_LIST])
     ensures c_after { c.new ≡ tally 129 c.old (ids l) }
     ensures l_len { length l ≡ wait_list }

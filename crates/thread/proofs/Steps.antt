@@ -1,19 +1,27 @@
--- One turn of each loop. Assumes nothing.
+-- The least of two, and one turn of each loop. Assumes nothing.
 use mathlib.Core.Path.{◌≡◌, refl, ap, sym, ◌∙◌}
 use mathlib.Core.Logic.{◌≢◌}
 use mathlib.Core.Bool.{Bool, true, false}
 use mathlib.Core.List.{List, [], ◌∷◌}
-use Prim.Native.Nat.{ℕ, zero, suc, ◌+◌, ◌-◌, ◌≤◌, ◌<◌}
+use Prim.Native.Nat.{ℕ, zero, suc, ◌+◌, ◌-◌, ◌≤◌, ◌<◌, min}
 use native.Mathlib.Omega.{arith}
 use lib.Dec.{eqb}
 use lib.ListN.{get_or, set}
 use borrow.Author.Tests.{eq-eqb, ne_eqb}
-use Rattle.laws.specs.Logic.{pick}
+use Rattle.std.proofs.Common.{inl, inr, lt-ltb, le-ltb}
+use Rattle.laws.specs.Logic.{pick, lt-cases}
 use Rattle.laws.specs.Count.{count}
 use Rattle.types.specs.declared.kernel.Kernel.{Kernel}
 use Rattle.sound.specs.Tls.{held}
 use Rattle.thread.specs.Threads.{least, free_from, tls_slot}
 use Rattle.thread.specs.Marks.{least-le, free_marked}
+
+-- the library's minimum is the definitions'
+pub min-least : (a b : ℕ) → min a b ≡ least a b
+min-least a b = elim (lt-cases a b) [
+  | inl h ↦ rw (lt-ltb a b h) (omega arith)
+  | inr h ↦ rw (le-ltb a b h) (omega arith)
+]
 
 module _ (m : List ℕ) (n i : ℕ) where
   step : i < n → free_marked m (n - i) i ≡ pick (eqb (get_or m i 0) 0) i (free_marked m (n - (i + 1)) (i + 1))

@@ -1,5 +1,6 @@
 -- TLS slots as they are looked for: those held are counted into an array.
-use Rattle.std.specs.Prelude.{◌≡◌, refl, Bool, true, false, List, ℕ, zero, suc, ◌+◌, ◌≤◌, eqb, ltb, length, get_or, replicate}
+use Rattle.std.specs.Prelude.{◌≡◌, refl, Bool, true, false, List, ℕ, zero, suc, ◌+◌, ◌≤◌, eqb, ltb, length, get_or}
+use Rattle.std.specs.Prelude.{replicate}
 use Rattle.std.proofs.Common.{arith, ltb-true, ltb-false}
 use Rattle.laws.specs.Logic.{pick}
 use Rattle.laws.specs.Count.{count}

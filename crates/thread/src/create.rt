@@ -1,40 +1,34 @@
 // Making a thread: in the place of an ended one, or in a new one (`forget_thread`, `create_thread`, and the `new` of
 // thread.rs).
-ghost use Rattle.std.specs.Prelude.{◌≡◌, ◌+◌, ◌-◌, ◌<◌, ◌≤◌, ltb, leb};
+ghost use Rattle.std.specs.Prelude.{◌≡◌, ◌+◌, leb};
 ghost use Rattle.laws.specs.Logic.{pick, ◌or◌};
 ghost use Rattle.thread.specs.Thread.{new_thread, status_word, new_context};
 
-use types::thread::{Thread, ThreadContext, ThreadStatus, WAIT_LIST};
-use units::{ObjectId, Ticks};
+use types::thread::{Thread, ThreadContext, ThreadStatus};
+
+// What whoever makes a thread asks for.
+#[derive(Clone, Copy)]
+pub struct NewThread {
+    pub entry: u32,
+    pub stack_top: u32,
+    pub priority: u32,
+    pub processor_id: u32,
+}
 
 // A thread that is ready and waits for nothing.
-pub fn new_thread(
-    entry: u32,
-    stack_top: u32,
-    priority: u32,
-    processor_id: u32,
-    tls: u32,
-    guest_id: u32,
-) -> Thread
-    ensures { result ≡ new_thread entry stack_top priority processor_id tls guest_id }
+pub fn new_thread(asked: NewThread, tls: u32, guest_id: u32) -> Thread
+    ensures { result ≡ new_thread asked.entry asked.stack_top asked.priority asked.processor_id tls guest_id }
 {
     Thread {
         status: ThreadStatus::Ready,
-        priority,
-        entry,
-        stack_top,
+        priority: asked.priority,
+        entry: asked.entry,
+        stack_top: asked.stack_top,
         tls,
-        processor_id,
-        wait_objects: [ObjectId(0); WAIT_LIST],
-        wait_count: 0,
-        wait_all: false,
-        wakeup_at: None,
-        running_since: Ticks(0),
+        processor_id: asked.processor_id,
         waited: true,
-        wait_address: None,
-        wait_result: None,
-        wait_syscall: None,
         guest_id,
+        ..Thread::default()
     }
 }
 
@@ -68,11 +62,4 @@ pub fn counted(reused: bool, n: u32) -> u32
     ensures { result ≡ pick (reused or leb 32 n) n (n + 1) }
 {
     if reused || 32 <= n { n } else { n + 1 }
-}
-
-pub fn given_out(tls: u32, n: u32) -> u32
-    requires { tls ≤ 32 }
-    ensures { result ≡ pick (ltb tls n) n (tls + 1) }
-{
-    if tls < n { n } else { tls + 1 }
 }

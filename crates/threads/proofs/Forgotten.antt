@@ -1,4 +1,10 @@
 -- What forgetting an ended thread leaves of the free slots and of the kept objects. Assumes nothing.
+use Rattle.std.proofs.lemmas.Grind.{common_steps}
+use Rattle.codec.specs.Bytes.{le}
+use Rattle.codec.specs.Layout.{dec_as}
+use Rattle.block.specs.Block.{dec_block}
+use Rattle.sound.specs.Question.{sound?}
+use Rattle.sound.proofs.Question.{t_block}
 use mathlib.Core.Path.{◌≡◌, refl, sym, ap, ◌∙◌}
 use mathlib.Core.Bool.{Bool, true, false}
 use mathlib.Core.List.{List, [], ◌∷◌}
@@ -8,7 +14,7 @@ use native.Mathlib.Omega.{arith}
 use lib.Dec.{eqb, leb, ltb}
 use lib.ListN.{get_or, set}
 use borrow.Author.Tests.{eqb-true, eqb-false, leb-true, lt-leb, ltb-false}
-use Rattle.laws.specs.Logic.{pick, lt-cases, or_no}
+use Rattle.laws.specs.Logic.{pick, pick_yes, pick_no, lt-cases, or_no}
 use Rattle.units.specs.declared.ObjectId.{ObjectId}
 use Rattle.types.specs.declared.thread.Thread as th
 use Rattle.types.specs.declared.object.KObject.{KObject}
@@ -122,3 +128,15 @@ module _ (k : Kernel) (h : Sound k) where
 
   pub made-free : eqb (made_store k).free 0 ≡ pick (eqb (kept_at s t) 0) (eqb s.free 0) false
   made-free = free_if (ltb t k.thread_count) (eqb (kept_at s t) 0) refl refl
+
+-- ---- in the block b
+pub slot-none : (b : List ℕ) → sound? b ≡ true
+    → eqb (made_store (dec_block b)).free 0
+    ≡ pick (eqb (kept_at (dec_block b).objects (ended_thread (dec_block b))) 0) (eqb (dec_block b).objects.free 0) false
+slot-none b s = made-free (dec_block b) ((t_block b).yes s).state
+
+pub free-is : (b : List ℕ) → le 4 b 32 ≡ (dec_block b).objects.free
+unfolding dec_block dec_as
+free-is b = refl
+
+pub ruleset slots = (common_steps, pick_yes, pick_no, slot-none, free-is)

@@ -1,11 +1,16 @@
 -- What is found where only threads change, and where a thread ends. Assumes nothing.
+use Rattle.std.proofs.lemmas.Grind.{common_steps}
+use Rattle.laws.specs.Logic.{pick_yes, pick_no}
+use Rattle.codec.specs.Layout.{dec_all}
+use Rattle.block.specs.Thread.{dec_thread}
+use Rattle.pass.specs.Pick.{others_ready, others_from}
 use Rattle.std.specs.Prelude.{Option, Some, None}
 use mathlib.Core.Path.{◌≡◌, refl, ap, ◌∙◌}
 use mathlib.Core.Logic.{inl, inr}
-use borrow.Author.Tests.{lt-ltb, le-ltb}
+use borrow.Author.Tests.{le-ltb}
 use mathlib.Core.Bool.{false}
 use mathlib.Core.List.{List}
-use Prim.Native.Nat.{ℕ, ◌<◌, min}
+use Prim.Native.Nat.{ℕ, ◌<◌}
 use native.Mathlib.Omega.{arith}
 use lib.ListN.{set}
 use Rattle.laws.specs.Logic.{◌or◌, lt-cases}
@@ -13,7 +18,7 @@ use Rattle.units.specs.declared.Ticks.{Ticks}
 use Rattle.types.specs.declared.thread.Thread.{Thread}
 use Rattle.block.specs.Block.{dec_block}
 use Rattle.sound.specs.View.{thread_at}
-use Rattle.thread.specs.Threads.{with_threads, set_priority, least}
+use Rattle.thread.specs.Threads.{with_threads, set_priority}
 use Rattle.types.specs.declared.kernel.Kernel.{Kernel}
 use Rattle.pass.specs.Timers.{saturating_add}
 use Rattle.pass.specs.Waits.{sleeping, sleep_as, sleep_current}
@@ -77,5 +82,10 @@ pub exit-silent : (current : Option ℕ) (k : Kernel) → accepted (exit_as curr
 exit-silent None k = refl
 exit-silent (Some c) k = refl
 
-pub least-min : (a n : ℕ) → min a n ≡ least a n
-least-min a n = elim (lt-cases a n) [ inl h ↦ rw (lt-ltb a n h) (omega arith) | inr h ↦ rw (le-ltb a n h) (omega arith) ]
+-- another thread that is ready, of the threads as they are read
+pub others-ask : (b : List ℕ)
+    → others_ready (dec_block b) ≡ others_from (dec_block b).current_thread 0 (dec_all dec_thread 160 32 b 128)
+unfolding others_ready dec_block
+others-ask b = refl
+
+pub ruleset yields = (common_steps, pick_yes, pick_no, others-ask)

@@ -6,17 +6,14 @@ use native.Mathlib.Omega.{arith}
 use lib.Dec.{ltb}
 use lib.ListN.{get_or, set, length-map}
 use lib.Seq.{set-set, get_or-set_same}
-use borrow.Author.Tests.{eq-eqb, lt-ltb}
+use borrow.Author.Tests.{eq-eqb}
 use Rattle.laws.specs.Logic.{pick}
 use Rattle.units.specs.declared.ObjectId.{ObjectId}
 use Rattle.types.specs.declared.object.KObject.TheVariants.{Thread}
 use Rattle.types.specs.declared.object.Slot.{Slot}
-use Rattle.types.specs.declared.object.HandleEntry.{HandleEntry}
 use Rattle.types.specs.declared.object.ObjectStore.{ObjectStore}
 use Rattle.types.specs.declared.kernel.Kernel.{Kernel}
-use Rattle.types.specs.Object.{next_of}
 use Rattle.block.specs.declared.Head.{Head}
-use Rattle.block.specs.Thread.{four}
 use Rattle.block.specs.Block.{head_words}
 use Rattle.sound.specs.View.{ids, slot_at}
 use Rattle.sound.specs.Objects.{names, kept_at}
@@ -31,11 +28,8 @@ use Rattle.soundness.specs.Objects.{free-slot}
 use Rattle.soundness.specs.Whole.{sound-parts}
 use Rattle.svc.specs.Call.{with_handles}
 use Rattle.svc.specs.Threads.{thread_handle}
-use Rattle.rows.specs.Rows.{slot_put, kept_put, entry_put, head_put}
+use Rattle.rows.specs.Rows.{slot_put, kept_put, entry_put, head_put, slot_inserted, head_inserted, entry_given, head_given}
 use Rattle.rows.specs.Holds.{Holds, put-slot, put-kept, put-entry, put-head}
-
-abbrev entry : ℕ → ℕ → HandleEntry
-entry h o = record { handle = record { 0 = h }; object = record { 0 = o } }
 
 put-twice : (l : List Slot) (o : ℕ) (x y : Slot) → object.slot_put (object.slot_put l o x) o y ≡ object.slot_put l o y
 unfolding object.slot_put
@@ -92,20 +86,16 @@ module _ (k : Kernel) (h : Sound k) (t : ℕ) (l : t < 32) (e : kept_at k.object
   as_handle d g = subst (λ (y : Kernel). Holds d y) (sym handle_is) g
 
   module _ (b : List ℕ) (g : Holds b k) where
-    in_tables : Holds (head_put (entry_put (kept_put (slot_put b f (named 2)) t (record { 0 = f })) k.handles.count (entry k.handles.next.0 f)) (head_words with_twice)) with_twice
+    -- what is written, with the head w of the state
+    abbrev written : Head → List ℕ
+    written w =
+        let x = slot_at s.slots w.free in
+        let o : ObjectId = record { 0 = w.free } in
+        head_put (entry_put (kept_put (slot_put b w.free (slot_inserted x (Thread t) 2)) t o) w.handle_count (entry_given (head_inserted w x) o)) (head_given (head_inserted w x))
+
+    in_tables : Holds (written (head_words k)) with_twice
     unfolding insert give
-    in_tables = put-head (put-entry (put-kept (put-slot g f (named 2)) t (record { 0 = f })) k.handles.count (entry k.handles.next.0 f)) with_twice refl refl refl refl refl
+    in_tables = put-head (put-entry (put-kept (put-slot g f (named 2)) t (record { 0 = f })) k.handles.count _) with_twice refl refl refl refl refl
 
-    head-is : k.handles.count < 256 → k.handles.next.0 < 0xFFFF8000
-        → record { a = (head_words k).a; b = (head_words k).b; c = four (next_of (slot_at s.slots f).object) s.free_waiter (k.handles.count + 1) (k.handles.next.0 + 1); d = (head_words k).d } ≡ head_words with_twice
-    unfolding insert give
-    head-is n m = rw (lt-ltb k.handles.count 256 n, lt-ltb k.handles.next.0 0xFFFF8000 m)
-
-    -- with the head w of the state, the old slot x and the next one n
-    tables : (w : Head) → w ≡ head_words k → (x : Slot) → x ≡ slot_at s.slots w.c.0 → (n : ℕ) → n ≡ next_of x.object → k.handles.count < 256 → k.handles.next.0 < 0xFFFF8000
-        → Holds (head_put (entry_put (kept_put (slot_put b w.c.0 (record { object = Thread t; refcount = 2; pulsed = x.pulsed })) t (record { 0 = w.c.0 })) w.c.2 (entry w.c.3 w.c.0)) (record { a = w.a; b = w.b; c = four n w.c.1 (w.c.2 + 1) (w.c.3 + 1); d = w.d })) with_twice
-    tables w p x u n q c m = rw (q, u, p, head-is c m) in_tables
-
-    pub handled : (w : Head) → w ≡ head_words k → (x : Slot) → x ≡ slot_at s.slots w.c.0 → (n : ℕ) → n ≡ next_of x.object → k.handles.count < 256 → k.handles.next.0 < 0xFFFF8000
-        → Holds (head_put (entry_put (kept_put (slot_put b w.c.0 (record { object = Thread t; refcount = 2; pulsed = x.pulsed })) t (record { 0 = w.c.0 })) w.c.2 (entry w.c.3 w.c.0)) (record { a = w.a; b = w.b; c = four n w.c.1 (w.c.2 + 1) (w.c.3 + 1); d = w.d })) (thread_handle k t).kernel
-    handled w p x u n q c m = as_handle _ (tables w p x u n q c m)
+    pub handled : (w : Head) → w ≡ head_words k → Holds (written w) (thread_handle k t).kernel
+    handled w e = rw e (as_handle _ in_tables)

@@ -90,10 +90,8 @@ module _ (b : List ℕ) (s : sound? b ≡ true) (r : Registers) (w1 : Word r.r1)
   made-sound : Sound j
   made-sound = create_thread-sound k r.r1 r.r3 r.r0 r.r4 ((t_block b).yes s).state w1 w3 w4 made-full made-over
 
-  made-next : (0 < (made_store k).free) × (k.handles.count < 256) × (k.handles.next.0 < 0xFFFF8000)
-  made-next =
-      let q = or-false _ _ (or-false _ _ none.0).1 in
-      (free-pos (made_store k) q.0, leb-false 256 k.handles.count q.1, leb-false 0xFFFF8000 k.handles.next.0 (or-false _ _ none.1).1)
+  made-free : 0 < (made_store k).free
+  made-free = free-pos (made_store k) (or-false _ _ (or-false _ _ none.0).1).0
 
   module _ (e : List ℕ) (g : Holds e j) where
     state : dec_block e ≡ j
@@ -106,9 +104,9 @@ module _ (b : List ℕ) (s : sound? b ≡ true) (r : Registers) (w1 : Word r.r1)
     unfolding thread.create_thread
     kept-made = ap (λ (q : Kernel). kept_at q.objects t) state ∙ made_kept k ((t_block b).yes s).state
 
-    pub room-made : (0 < (dec_block e).objects.free) × ((dec_block e).handles.count < 256) × ((dec_block e).handles.next.0 < 0xFFFF8000)
+    pub room-made : 0 < (dec_block e).objects.free
     unfolding thread.create_thread
-    room-made = rw state made-next
+    room-made = rw state made-free
 
     -- and with its handle, in the block d
     pub left-made : (d : List ℕ) (i : ℕ) → i ≡ t → Holds d (thread_handle (dec_block e) i).kernel → d ≡ left (create_thread k r) b

@@ -1,5 +1,5 @@
 // `create_thread` (svc.rs), in the block.
-ghost use Rattle.std.specs.Prelude.{◌≡◌, true, ◌+◌, ◌<◌, eqb, length};
+ghost use Rattle.std.specs.Prelude.{◌≡◌, true, ◌<◌, eqb};
 ghost use Rattle.block.specs.Block.{dec_block};
 ghost use Rattle.sound.specs.Objects.{kept_at};
 ghost use Rattle.sound.specs.Question.{sound?};
@@ -10,17 +10,18 @@ ghost use Rattle.rows.specs.Holds.{Holds};
 ghost use Rattle.outcome.specs.Outcome.{outcome, left};
 ghost use Rattle.threads.specs.Made.{made_store, found_made};
 
-use block::{Block, Head};
-use codec::Four;
+use block::Block;
 use outcome::Outcome;
 use rows::{read, write};
 use svc::Registers;
-use types::object::{HandleEntry, KObject, Slot};
+use thread::create::NewThread;
+use types::object::KObject;
 use types::refusal::Refusal;
-use units::{Handle, ObjectId};
+use units::ObjectId;
 
 // No slot is free for the thread's object. The object of an ended thread, if there is one, makes room when it is let
 // go.
+#[tactic(auto, using(crate::proofs::Forgotten::slots))]
 fn no_slot(block: &Block, id: u32) -> bool
     requires block_value { sound? block.now ≡ true }
     requires id_value { id ≡ ended_thread (dec_block block.now) }
@@ -45,34 +46,20 @@ fn room_to_make(block: &Block, id: u32) -> Result<(), Refusal>
     )
 }
 
-// The object of thread id, kept and with a handle: two name it. All have room.
+// The object of thread id, kept and with a handle: two name it. A slot is free for it.
 fn put_handle(block: &mut Block, id: u32)
     requires block_value { sound? block.old ≡ true }
     requires id_bound { id < 32 }
     requires id_value { kept_at (dec_block block.old).objects id ≡ 0 }
     requires free_nonzero { 0 < (dec_block block.old).objects.free }
-    requires block_bound { (dec_block block.old).handles.count < 256 }
-    requires block_bound_2 { (dec_block block.old).handles.next.0 < 0xFFFF8000 }
     ensures { Holds block.new (def.thread_handle (dec_block block.old) id).kernel }
 {
     let head = block::get_head(block);
-    let o = ObjectId(head.c.0);
-    let old = read::slot_at(block, o);
-    let next = types::object::next_of(old.object);
-    let slot = Slot {
-        object: KObject::Thread(id),
-        refcount: 2,
-        ..old
-    };
-    write::put_slot(block, o, slot);
+    let o = ObjectId(head.free);
+    let made = write::insert(block, head, KObject::Thread(id), 2);
     write::put_kept(block, id, o);
-    let entry = HandleEntry {
-        handle: Handle(head.c.3),
-        object: o,
-    };
-    write::put_entry(block, head.c.2, entry);
-    let c = Four(next, head.c.1, head.c.2 + 1, head.c.3 + 1);
-    write::put_head(block, Head { c, ..head });
+    let given = write::give(block, made, o);
+    write::put_head(block, given);
 }
 
 // r1 gets a handle to the new thread.
@@ -85,7 +72,13 @@ pub fn create_thread(block: &mut Block, r: Registers) -> Result<Outcome, Refusal
     room_to_make(block, id)?;
     let tls = vacant::tls_slot(block);
     let next = codec::get32(block, 44);
-    spawn::put_created(block, id, tls, r.r1, r.r3, r.r0, r.r4);
+    let asked = NewThread {
+        entry: r.r1,
+        stack_top: r.r3,
+        priority: r.r0,
+        processor_id: r.r4,
+    };
+    spawn::put_created(block, id, tls, asked);
     put_handle(block, id);
     Ok(outcome::gives(next))
 }

@@ -10,9 +10,9 @@ use block::Block;
 use outcome::{Answer, Outcome};
 use rows::read;
 use svc::Registers;
+use thread::priority;
 use types::object::KObject;
 use types::refusal::Refusal;
-use types::thread::Thread;
 use units::Handle;
 
 // The pseudo-handle of the process names no thread, and no object is made.
@@ -36,9 +36,9 @@ pub fn set_thread_priority(block: &mut Block, r: Registers) -> Result<Outcome, R
 {
     outcome::room(false, outcome::out_of_handles(block))?;
     let Some(t) = resolve_thread(block, Handle(r.r0)) else {
-        return Ok(outcome::answers(Answer::UnknownHandle));
+        return Ok(Outcome::from(Answer::UnknownHandle));
     };
-    let priority = r.r1.min(63);
-    change(block, t, |x| Thread { priority, ..x });
+    let lowest = r.r1.min(63);
+    change(block, t, |x| priority::with_priority(x, lowest));
     Ok(outcome::done())
 }

@@ -17,10 +17,11 @@ use units::{Nanos, Ticks};
 
 // How long the thread sleeps; a yield of 0 nanoseconds that nobody could use, and at which nothing is due, keeps the
 // core.
+#[tactic(auto, using(crate::proofs::Found::yields))]
 fn sleep_ticks(block: &Block, nanos: Nanos, tick: Ticks) -> Option<Ticks>
     ensures { result ≡ def.sleep_ticks (dec_block block.now) nanos.0 tick.0 }
 {
-    if !units::is_zero(nanos) {
+    if !nanos.is_zero() {
         return Some(units::nanos_to_ticks(nanos));
     }
     let ts = block::record::read_all(block, 128);
@@ -53,7 +54,7 @@ fn put_slept(block: &mut Block, time: Option<Ticks>, tick: Ticks)
         Some(d) => change(
             block,
             c,
-            |t| begin::sleeping(t, begin::saturating_add(tick, d)),
+            |t| begin::sleeping(t, Ticks(tick.0.saturating_add(d.0))),
         ),
     }
 }
@@ -65,7 +66,7 @@ pub fn sleep_thread(block: &mut Block, r: Registers, tick: Ticks) -> Result<Outc
     ensures block_after { block.new ≡ left (def.sleep_thread (dec_block block.old) r tick.0) block.old }
 {
     outcome::room(false, outcome::out_of_handles(block))?;
-    let time = sleep_ticks(block, svc::read::pair(r.r0, r.r1), tick);
+    let time = sleep_ticks(block, Nanos::from_words(r.r0, r.r1), tick);
     put_slept(block, time, tick);
     Ok(outcome::done())
 }

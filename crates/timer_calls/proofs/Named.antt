@@ -2,6 +2,7 @@
 use mathlib.Core.Path.{◌≡◌, refl, sym, ap, ◌∙◌}
 use mathlib.Core.Bool.{Bool, true, false, true≢false}
 use mathlib.Core.List.{List}
+use Rattle.std.proofs.lemmas.Grind.{common_steps}
 use Prim.Native.Nat.{ℕ}
 use Rattle.types.specs.declared.object.KObject.{KObject}
 use Rattle.types.specs.declared.object.KObject.TheVariants.{Free, Thread, Event, Mutex, Semaphore, Timer, AddressArbiter, Process, ResourceLimit}
@@ -118,3 +119,5 @@ module _ (b : List ℕ) (s : sound? b ≡ true) (o : ℕ) (x : Slot) (ex : x ≡
         let e : done (with_objects j (content j.objects o (Timer t))) ≡ set_opened j o r tick =
         ap (λ (y : ti.Timer). done (with_objects j (content j.objects o (Timer y)))) u ∙ timer_one (object_at j.objects o) j o (not_below (pair r.r2 r.r3)) (not_below (pair r.r1 r.r4)) tick (sym (ap timer? same_object) ∙ sym en ∙ z) in
         (ap accepted e, rw (← e) (put-content (holds b s) o x (Timer t) ex))
+
+pub ruleset sets = (common_steps, set_other, set-one)

@@ -5,7 +5,8 @@ use mathlib.Core.Bool.{Bool, true, false}
 use mathlib.Core.List.{List}
 use Prim.Native.Nat.{ℕ}
 use lib.Dec.{eqb}
-use Rattle.laws.specs.Logic.{pick, ◌and◌, ◌or◌, or-false}
+use Rattle.std.proofs.lemmas.Grind.{common_steps}
+use Rattle.laws.specs.Logic.{pick, ◌and◌, ◌or◌, or-false, or_yes, or_no}
 use Rattle.units.specs.declared.ObjectId.{ObjectId}
 use Rattle.types.specs.declared.refusal.Refusal.{Refusal}
 use Rattle.types.specs.Refusal.{refusal_number, refusal-some, found_in}
@@ -22,10 +23,12 @@ use Rattle.svc.specs.Call.{with_objects, resolved}
 use Rattle.svc.specs.Timers.{caught_up}
 use Rattle.calling.specs.Resolves.{resolve-overflow}
 use Rattle.lent.specs.Operations.{finding, out_of_handles?}
-use Rattle.outcome.specs.Findings.{found_of, none_found, parts-finding}
+use Rattle.outcome.specs.Findings.{found_of, none_found, parts-finding, room-none}
+use Rattle.due.proofs.Caught.{none-due}
 use Rattle.objects.specs.Open.{Opens, makes_current, no_room}
 use Rattle.objects.proofs.Room.{resolved-full}
 use Rattle.objects.proofs.Sound.{opened-state}
+use Rattle.timer_calls.proofs.Found.{down}
 
 -- only slots change, and whether a count fits
 pub caught_as : (s : ObjectStore) (ts : List Thread) (tick : ℕ) → catch_up_timers s ts tick ≡ with_overflow (with_slots s (catch_up_timers s ts tick).slots) (catch_up_timers s ts tick).overflow
@@ -86,3 +89,7 @@ module _ (b : List ℕ) (h tick : ℕ) where
 
     pub state-caught : found_in o ≡ 0 → dec_block e ≡ with_objects caught (resolved caught h).store
     state-caught z = opened-state m s h e o p z ∙ (λ i. with_objects (q i) (resolved (q i) h).store)
+
+pub ruleset fires = (common_steps, or_yes, or_no, none-due, down)
+
+pub ruleset opens = (common_steps, room-none, caught-fits)

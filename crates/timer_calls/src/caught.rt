@@ -16,6 +16,7 @@ use objects::open;
 use types::refusal::Refusal;
 use units::{Handle, ObjectId, Ticks};
 
+#[tactic(auto, using(crate::proofs::Opened::fires))]
 fn over_if(block: &Block, fires: bool, tick: Ticks) -> bool
     requires fires_value { fires ≡ timer_due tick.0 (dec_block block.now).objects.slots }
     ensures { result ≡ (def.caught_up (dec_block block.now) tick.0).objects.overflow }
@@ -25,6 +26,7 @@ fn over_if(block: &Block, fires: bool, tick: Ticks) -> bool
 
 // What a call would find already, looked for before the first write: a count of periods may not fit, the handles may
 // be used up. full tells whether there is no slot for an object that the call would make.
+#[tactic(auto, using(crate::proofs::Opened::fires))]
 pub fn found_before(block: &Block, full: bool, fires: bool, tick: Ticks) -> Result<(), Refusal>
     requires fires_value { fires ≡ timer_due tick.0 (dec_block block.now).objects.slots }
     ensures { result ≡ unless_found
@@ -38,6 +40,7 @@ pub fn found_before(block: &Block, full: bool, fires: bool, tick: Ticks) -> Resu
 }
 
 // Timers that came due by the tick fire.
+#[tactic(auto, using(crate::proofs::Opened::fires))]
 pub fn catch_up_if(block: &mut Block, fires: bool, tick: Ticks)
     requires block_value { sound? block.old ≡ true }
     requires fires_value { fires ≡ timer_due tick.0 (dec_block block.old).objects.slots }
@@ -51,6 +54,7 @@ pub fn catch_up_if(block: &mut Block, fires: bool, tick: Ticks)
 }
 
 // Timers that came due fire, then the handle is opened. If it is refused the block stays as it is.
+#[tactic(auto, using(crate::proofs::Opened::opens))]
 pub fn open_caught(block: &mut Block, h: Handle, tick: Ticks) -> Result<ObjectId, Refusal>
     requires block_value { sound? block.old ≡ true }
     ensures opens { Opens (def.caught_up (dec_block block.old) tick.0)

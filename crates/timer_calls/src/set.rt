@@ -20,7 +20,7 @@ fn no_timer() -> Timer
     }
 }
 
-// All 0 for an object of another kind, which the caller has ruled out.
+// All 0 for an object of another kind, which the caller has ruled out: `set_by` promises something of every object.
 fn timer_of(x: KObject) -> Timer
     ensures { result ≡ timer_of x }
 {
@@ -34,11 +34,8 @@ fn timer_of(x: KObject) -> Timer
 fn delay(low: u32, high: u32) -> Nanos
     ensures { result.0 ≡ def.not_below (pair low high) }
 {
-    let n = svc::read::pair(low, high);
-    if svc::read::negative(n) {
-        return units::zero_nanos();
-    }
-    n
+    let n = Nanos::from_words(low, high);
+    if n.is_negative() { Nanos::ZERO } else { n }
 }
 
 fn set_to(t: Timer, initial: Nanos, interval: Nanos, tick: Ticks) -> Timer
@@ -47,7 +44,7 @@ fn set_to(t: Timer, initial: Nanos, interval: Nanos, tick: Ticks) -> Timer
     let first = units::nanos_to_ticks(initial);
     Timer {
         signaled: false,
-        fire_at: Some(begin::saturating_add(tick, first)),
+        fire_at: Some(Ticks(tick.0.saturating_add(first.0))),
         interval: units::nanos_to_ticks(interval),
         ..t
     }

@@ -22,6 +22,7 @@ use types::sync::{ResetType, Timer};
 use units::{Handle, ObjectId, Ticks};
 
 // It is stopped.
+#[tactic(auto, unfolding(svc::specs::Timers::create_timer))]
 pub fn create_timer(block: &mut Block, r: Registers) -> Result<Outcome, Refusal>
     requires block_value { sound? block.old ≡ true }
     ensures value { result ≡ outcome (def.create_timer (dec_block block.old) r) }
@@ -38,6 +39,7 @@ pub fn create_timer(block: &mut Block, r: Registers) -> Result<Outcome, Refusal>
     )
 }
 
+#[tactic(auto, using(crate::proofs::Named::sets))]
 fn set_opened(block: &mut Block, o: ObjectId, r: Registers, tick: Ticks) -> Outcome
     requires block_value { sound? block.old ≡ true }
     ensures value { result ≡ accepted (set_opened (dec_block block.old) o.0 r tick.0) }
@@ -45,7 +47,7 @@ fn set_opened(block: &mut Block, o: ObjectId, r: Registers, tick: Ticks) -> Outc
 {
     let x = read::slot_at(block, o);
     if !types::object::is_timer(x.object) {
-        return outcome::answers(Answer::UnknownHandle);
+        return Outcome::from(Answer::UnknownHandle);
     }
     let t = set::set_by(x.object, r, tick);
     change::content(block, o, x, KObject::Timer(t));
@@ -85,6 +87,7 @@ fn change_caught<F: Fn(KObject) -> KObject>(
 }
 
 // r0 handle. Always done, whatever the handle names.
+#[tactic(auto, using(crate::proofs::Named::cancel_is))]
 pub fn cancel_timer(block: &mut Block, r: Registers, tick: Ticks) -> Result<Outcome, Refusal>
     requires block_value { sound? block.old ≡ true }
     ensures value { result ≡ outcome (def.cancel_timer (dec_block block.old) r tick.0) }
@@ -94,6 +97,7 @@ pub fn cancel_timer(block: &mut Block, r: Registers, tick: Ticks) -> Result<Outc
 }
 
 // r0 handle. The signal goes, as that of a lost pulse does.
+#[tactic(auto, using(crate::proofs::Named::clear_is))]
 pub fn clear_timer(block: &mut Block, r: Registers, tick: Ticks) -> Result<Outcome, Refusal>
     requires block_value { sound? block.old ≡ true }
     ensures value { result ≡ outcome (def.clear_timer (dec_block block.old) r tick.0) }

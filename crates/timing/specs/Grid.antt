@@ -1,5 +1,6 @@
 -- The due tick of a timer that is fired at any ticks: on a grid, however late it is fired.
-use Rattle.std.specs.Prelude.{◌≡◌, refl, Bool, true, false, ℕ, ◌+◌, ◌-◌, ◌*◌, ◌/◌, ◌≤◌, ◌<◌, min, leb, ltb, Option, Some, None}
+use Rattle.std.specs.Prelude.{◌≡◌, refl, Bool, true, false, ℕ, ◌+◌, ◌-◌, ◌*◌, ◌/◌, ◌≤◌, ◌<◌, min, leb, ltb, Option}
+use Rattle.std.specs.Prelude.{Some, None}
 use Rattle.std.proofs.Math.Path.{ap}
 use Rattle.std.proofs.Common.{sym, subst, ◌∙◌, inl, inr, arith, div-mul-le_self, lt_of_mul-lt-mul_right, leb-true, leb-false, ltb-true, ltb-false, lt-ltb, le-leb}
 use mathlib.Core.List.{List, [], ◌∷◌}

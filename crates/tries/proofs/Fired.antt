@@ -3,6 +3,7 @@ use mathlib.Core.Path.{◌≡◌, refl, sym, ap, subst, ◌∙◌}
 use mathlib.Core.Bool.{Bool, true, false}
 use mathlib.Core.List.{List, map}
 use Prim.Native.Nat.{ℕ, ◌+◌, ◌≤◌, ◌<◌}
+use Rattle.std.proofs.lemmas.Grind.{common_steps}
 use lib.ListN.{length, get_or, drop}
 use Rattle.laws.specs.Logic.{◌or◌, or-end, or_yes, or_no}
 use Rattle.types.specs.declared.object.Slot.{Slot}
@@ -15,7 +16,8 @@ use Rattle.object.specs.Slots.{with_slots}
 use Rattle.soundness.specs.Whole.{Parts, sound-parts}
 use Rattle.thread.specs.Threads.{with_threads}
 use Rattle.rows.specs.Holds.{Holds}
-use Rattle.rows.specs.Slots.{slotted, SlotsTo, slots-each}
+use Rattle.rows.specs.Sizes.{size-slots}
+use Rattle.rows.specs.Slots.{slotted, SlotsTo, slots-each, slot-before}
 use Rattle.release.specs.Encoded.{held-sound}
 use Rattle.pass.specs.Signal.{with_overflow, unpulsed_slot, clear_pulses}
 use Rattle.pass.specs.Timers.{fired_slot, over_of, any_over, fire_timers}
@@ -64,3 +66,5 @@ module _ (s : List ℕ) (e : sound? s ≡ true) where
   pub cleared-all : (b : List ℕ) (i : ℕ) → 128 ≤ i → SlotsTo s (λ _. unpulsed_slot) i b → (dec_block b ≡ with_threads k k.threads (clear_pulses k.objects)) × (sound? b ≡ true)
   unfolding clear_pulses
   cleared-all b i h m = held-sound b _ (slots-each s unpulsed_slot i b h m) (clear_pulses-parts k parts)
+
+pub ruleset fires = (common_steps, size-slots, slot-before, over_hit)

@@ -1,6 +1,7 @@
 -- The turn of a thread in a pass, in a sound block. Assumes nothing.
 use Rattle.std.specs.Prelude.{Option, ◌⊎◌}
 use Rattle.std.proofs.Common.{inl, inr}
+use Rattle.std.proofs.lemmas.Grind.{common_steps}
 use mathlib.Core.Path.{◌≡◌, refl, sym, ap, subst, ◌∙◌}
 use mathlib.Core.Bool.{Bool, true, false, true≢false}
 use mathlib.Core.List.{List, [], ◌∷◌}
@@ -13,7 +14,7 @@ use Rattle.types.specs.declared.thread.Thread.{Thread}
 use Rattle.types.specs.declared.object.ObjectStore.{ObjectStore}
 use Rattle.types.specs.declared.kernel.Kernel.{Kernel}
 use Rattle.block.specs.Block.{dec_block}
-use Rattle.sound.specs.View.{ids, object_at, thread_at}
+use Rattle.sound.specs.View.{ids, object_at, thread_at, first_ids}
 use Rattle.sound.specs.Objects.{Live}
 use Rattle.sound.specs.Question.{sound?}
 use Rattle.sound.proofs.Question.{t_block}
@@ -23,7 +24,7 @@ use Rattle.soundness.specs.Whole.{Parts, sound-parts}
 use Rattle.thread.specs.Threads.{with_threads}
 use Rattle.rows.specs.Rows.{thread_put}
 use Rattle.rows.specs.Holds.{Holds, put-thread}
-use Rattle.release.specs.Encoded.{Encoded, encoded-holds, held-sound}
+use Rattle.release.specs.Encoded.{Encoded, encoded-holds, held-sound, sound-encoded}
 use Rattle.pass.specs.declared.Fate.{Fate}
 use Rattle.pass.specs.declared.Fate.TheVariants.{Stays, Given, TimedOut, Slept}
 use Rattle.pass.specs.declared.Waits.{Waits}
@@ -31,6 +32,7 @@ use Rattle.pass.specs.Signal.{acquire_over, acquire, acquires, clear_pulses}
 use Rattle.pass.specs.Timers.{due_by, any_over, fire_timers}
 use Rattle.pass.specs.Waits.{satisfied_at, fate_as, fate, waited_objects, try_as, try_wait, try_waits}
 use Rattle.pass.specs.Schedule.{tried}
+use Rattle.take.proofs.Taken.{fits-as}
 use Rattle.passing.specs.Timers.{clear-overflow}
 use Rattle.passing.specs.Awake.{during}
 use Rattle.passing.specs.Fates.{FateOk, fate-ok, list-short}
@@ -185,3 +187,9 @@ module _ (k : Kernel) (tick : ℕ) where
 
     pub tried-is : (x : Kernel) → x ≡ all_tried q tick → with x (clear_pulses x.objects) ≡ during k (tried k tick)
     tried-is x d = ap (λ (z : Kernel). with z (clear_pulses z.objects)) d ∙ ap (λ (z : Kernel). during z (record { objects = clear_pulses (try_waits tick 32 0 (waits_of z)).objects; threads = (try_waits tick 32 0 (waits_of z)).threads })) e
+
+pub ruleset takings = (common_steps, first_ids, none_over, took-same, one-taken, one-is)
+
+pub ruleset turns = (common_steps, first_ids, sound-encoded, fits-as, fate-is, stays, lives, over-is)
+
+pub ruleset tries = (common_steps, none_over, try_more, try_end, tried-is)

@@ -5,11 +5,10 @@
 mod fate;
 mod slots;
 
-ghost use Rattle.std.specs.Prelude.{◌≡◌, true, ◌<◌, get_or, Ok};
+ghost use Rattle.std.specs.Prelude.{◌≡◌, true, ◌<◌, Ok};
 ghost use Rattle.laws.specs.Logic.{pick};
 ghost use Rattle.types.specs.Refusal.{unless_found};
 ghost use Rattle.block.specs.Block.{dec_block};
-ghost use Rattle.sound.specs.View.{ids};
 ghost use Rattle.sound.specs.Objects.{Live};
 ghost use Rattle.sound.specs.Question.{sound?};
 ghost use Rattle.thread.specs.Threads.{with_threads};
@@ -21,11 +20,12 @@ ghost use Rattle.tries.specs.Tries.{awakened, after, is_over, took, waits_of};
 
 use block::Block;
 use pass::Fate;
-use release::{first_of, release_list};
+use release::release_list;
 use rows::{read, write};
+use types::list;
 use types::refusal::Refusal;
-use types::thread::{Thread, ThreadStatus, WAIT_LIST, WaitResult};
-use units::{ObjectId, Ticks};
+use types::thread::{Thread, ThreadStatus, WaitResult};
+use units::Ticks;
 
 // A Ready thread whose wait is over, with the result r.
 fn woken(t: Thread, r: Option<WaitResult>) -> Thread
@@ -56,15 +56,9 @@ fn is_over(f: Fate) -> bool
     !matches!(f, Fate::Stays)
 }
 
-// The object at a place of a list, none past its end.
-fn object_at(l: [ObjectId; WAIT_LIST], i: u32) -> ObjectId
-    ensures { result.0 ≡ get_or (ids l) i 0 }
-{
-    l.get(i as usize).copied().unwrap_or(ObjectId(0))
-}
-
 // A wait for all takes every object, one for any the one at the index. Refused if a count does not fit any more. The
 // block is left open then, as by `take_list`.
+#[tactic(auto, using(crate::proofs::Turns::takings))]
 fn take_given(block: &mut Block, t: Thread, i: u32, w: u32) -> Result<(), Refusal>
     requires block_value { sound? block.old ≡ true }
     requires live { Live (dec_block block.old).threads w }
@@ -76,12 +70,13 @@ fn take_given(block: &mut Block, t: Thread, i: u32, w: u32) -> Result<(), Refusa
     ensures block_after_2 { sound? block.new ≡ true }
 {
     if t.wait_all {
-        return take::take_list(block, first_of(&t.wait_objects, t.wait_count), w);
+        return take::take_list(block, list::first(&t.wait_objects, t.wait_count), w);
     }
-    take::take(block, object_at(t.wait_objects, i), w)
+    take::take(block, take::object_at(&t.wait_objects, i), w)
 }
 
 // Refused if a count does not fit any more. The block is left open then, as by `take_list`.
+#[tactic(auto, using(crate::proofs::Turns::takings))]
 fn take_for(block: &mut Block, f: Fate, t: Thread, w: u32) -> Result<(), Refusal>
     requires block_value { sound? block.old ≡ true }
     requires live { Live (dec_block block.old).threads w }
@@ -99,6 +94,7 @@ fn take_for(block: &mut Block, f: Fate, t: Thread, w: u32) -> Result<(), Refusal
 
 // The turn of thread i. Refused if a count does not fit any more; part of the turn is done then. The block is left
 // open, since the pass refuses and puts back a copy.
+#[tactic(auto, using(crate::proofs::Turns::turns))]
 fn try_wait(block: &mut Block, i: u32, tick: Ticks) -> Result<(), Refusal>
     requires block_value { sound? block.old ≡ true }
     requires i_bound { i < 32 }
@@ -109,7 +105,7 @@ fn try_wait(block: &mut Block, i: u32, tick: Ticks) -> Result<(), Refusal>
     ensures block_after_2 { (result ≡ Ok tt) → sound? block.new ≡ true }
 {
     let t = read::thread_at(block, i);
-    let list = first_of(&t.wait_objects, t.wait_count);
+    let list = list::first(&t.wait_objects, t.wait_count);
     let found = wait::satisfied_at(block, i, t.wait_all, list);
     let f = fate::fate_of(t, found, tick);
     if !is_over(f) {
@@ -123,6 +119,7 @@ fn try_wait(block: &mut Block, i: u32, tick: Ticks) -> Result<(), Refusal>
 
 // Refused if a count does not fit any more, with part of it done. The block is left open then: the pass refuses and
 // puts back its copy.
+#[tactic(auto, using(crate::proofs::Turns::tries))]
 pub fn try_waits(block: &mut Block, tick: Ticks) -> Result<(), Refusal>
     requires block_value { sound? block.old ≡ true }
     ensures value { result ≡ unless_found (pick (pass.tried (dec_block block.old) tick.0).objects.overflow 8 0) tt }

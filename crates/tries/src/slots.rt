@@ -16,6 +16,7 @@ use units::{ObjectId, Ticks};
 
 // Timers that are due fire. Refused if a count of periods does not fit; some have fired then. The block is left open,
 // since the pass refuses and puts back a copy.
+#[tactic(auto, using(crate::proofs::Fired::fires))]
 pub fn fire(block: &mut Block, tick: Ticks) -> Result<(), Refusal>
     requires block_value { sound? block.old ≡ true }
     ensures value { result ≡ unless_found (pick (any_over tick.0 (dec_block block.old).objects.slots) 8 0) tt }

@@ -3,7 +3,8 @@ use Rattle.std.specs.Prelude.{◌≡◌, refl, Bool, true, false, cond, ℕ, eqb
 use Rattle.std.proofs.Common.{arith, sym, ◌∙◌, ap}
 use borrow.Author.Tests.{eqb-true, eq-eqb, ne_eqb}
 use Rattle.types.specs.declared.refusal.Refusal.{Refusal}
-use Rattle.types.specs.declared.refusal.Refusal.TheVariants.{Length, Unsound, UnknownCall, NoThread, TooManyHandles, OutsideWindow, Full, Overflow}
+use Rattle.types.specs.declared.refusal.Refusal.TheVariants.{Length, Unsound, UnknownCall, NoThread, TooManyHandles}
+use Rattle.types.specs.declared.refusal.Refusal.TheVariants.{OutsideWindow, Full, Overflow}
 
 abbrev pub refusal_number : Refusal → ℕ
 refusal_number Length = 1
@@ -65,7 +66,8 @@ unless-ok {A = A} n x y e = go (eqb n 0) refl e
     go false z u = cc
 
 -- what is refused does not depend on the value
-pub unless-err : {A B : Type 0} (n : ℕ) (x : A) (y : B) (r : Refusal) → unless_found n x ≡ Err r → unless_found n y ≡ Err r
+pub unless-err : {A B : Type 0} (n : ℕ) (x : A) (y : B) (r : Refusal) → unless_found n x ≡ Err r
+    → unless_found n y ≡ Err r
 unless-err {A = A} {B = B} n x y r e = go (eqb n 0) e
   where
     go : (t : Bool) → cond t (Ok x) (Err (refusal_of n)) ≡ Err r → cond t (Ok y) (Err (refusal_of n)) ≡ Err r

@@ -6,7 +6,8 @@ use Rattle.types.specs.declared.thread.ThreadStatus.TheVariants.{Dead, Running, 
 use Rattle.types.specs.declared.thread.WaitResult.{WaitResult}
 use Rattle.types.specs.declared.thread.WaitResult.TheVariants.{Signaled, TimedOut}
 use Rattle.types.specs.declared.thread.WaitSyscall.{WaitSyscall}
-use Rattle.types.specs.declared.thread.WaitSyscall.TheVariants.{WaitSynchronization1, WaitSynchronizationN, ArbitrateAddress, SleepThread}
+use Rattle.types.specs.declared.thread.WaitSyscall.TheVariants.{WaitSynchronization1, WaitSynchronizationN}
+use Rattle.types.specs.declared.thread.WaitSyscall.TheVariants.{ArbitrateAddress, SleepThread}
 
 -- ---- the places of a thread's list: the most handles in one wait
 abbrev pub wait_list : ℕ
@@ -87,4 +88,6 @@ syscall_number (Some ArbitrateAddress) = 3
 syscall_number (Some SleepThread) = 4
 
 abbrev pub syscall_of : ℕ → Option WaitSyscall
-syscall_of n = cond (eqb n 1) (Some WaitSynchronization1) (cond (eqb n 2) (Some WaitSynchronizationN) (cond (eqb n 3) (Some ArbitrateAddress) (cond (eqb n 4) (Some SleepThread) None)))
+syscall_of n = cond (eqb n 1) (Some WaitSynchronization1)
+    (cond (eqb n 2) (Some WaitSynchronizationN)
+    (cond (eqb n 3) (Some ArbitrateAddress) (cond (eqb n 4) (Some SleepThread) None)))

@@ -2,6 +2,7 @@
 #![tactic(auto)]
 
 pub mod kernel;
+pub mod list;
 pub mod object;
 pub mod refusal;
 pub mod sync;

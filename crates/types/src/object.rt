@@ -1,6 +1,7 @@
 // Kernel objects and the handle table (object.rs).
 ghost use Rattle.std.specs.Prelude.{◌≡◌};
 ghost use Rattle.types.specs.Object.{kind_number, next_of, head_of};
+ghost use Rattle.types.specs.declared.object.KObject.TheVariants.{Free};
 ghost use Rattle.types.specs.Tests.{free?, mutex?, timer?};
 
 use crate::sync::{AddressArbiter, Event, Mutex, Semaphore, Timer};
@@ -21,7 +22,15 @@ pub enum KObject {
     ResourceLimit,
 }
 
-#[derive(Clone, Copy)]
+impl Default for KObject {
+    ghost is_default = { λ o. o ≡ Free 0 };
+
+    fn default() -> KObject {
+        KObject::Free(0)
+    }
+}
+
+#[derive(Clone, Copy, Default)]
 pub struct Slot {
     pub object: KObject,
     pub refcount: u32,
@@ -30,7 +39,7 @@ pub struct Slot {
 }
 
 // A thread parked at an address, in the chain of an arbiter or in the free one.
-#[derive(Clone, Copy)]
+#[derive(Clone, Copy, Default)]
 pub struct Waiter {
     pub thread: u32,
     pub address: u32,
@@ -54,7 +63,7 @@ pub struct ObjectStore {
     pub overflow: bool,
 }
 
-#[derive(Clone, Copy)]
+#[derive(Clone, Copy, Default)]
 pub struct HandleEntry {
     pub handle: Handle,
     pub object: ObjectId,
@@ -71,6 +80,7 @@ pub struct HandleTable {
     pub overflow: bool,
 }
 
+// Not by `From`: the number leaves out what the object holds.
 pub fn kind_number(o: KObject) -> u32
     ensures { result ≡ kind_number o }
 {

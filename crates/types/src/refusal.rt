@@ -1,6 +1,6 @@
 // Why an operation is refused.
 ghost use Rattle.std.specs.Prelude.{◌≡◌};
-ghost use Rattle.types.specs.Refusal.{refusal_number};
+ghost use Rattle.types.specs.Refusal.{refusal_number, found_in};
 
 // The question that an operation asked and whose answer was no, by its number: the host gets that.
 #[derive(Clone, Copy, PartialEq, Eq)]
@@ -37,5 +37,15 @@ impl From<Refusal> for u32 {
             Refusal::Full => 7,
             Refusal::Overflow => 8,
         }
+    }
+}
+
+// What C gets of an operation: 0, or the number of the refusal.
+pub fn number(answer: Result<(), Refusal>) -> u32
+    ensures { result ≡ found_in answer }
+{
+    match answer {
+        Ok(()) => 0,
+        Err(r) => u32::from(r),
     }
 }

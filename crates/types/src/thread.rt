@@ -1,6 +1,8 @@
 // Threads and their saved processor state (thread.rs).
 ghost use Rattle.std.specs.Prelude.{◌≡◌};
-ghost use Rattle.types.specs.Thread.{option_flag, option_value, option_of, tick_value, tick_option, status_number, status_of, is_blocked, is_dead, result_number, result_index, result_of, syscall_number, syscall_of};
+ghost use Rattle.types.specs.Thread.{option_flag, option_value, option_of, tick_value, tick_option, status_number};
+ghost use Rattle.types.specs.Thread.{status_of, is_blocked, is_dead, result_number, result_index, result_of};
+ghost use Rattle.types.specs.Thread.{syscall_number, syscall_of};
 
 use units::{ObjectId, Ticks};
 
@@ -9,8 +11,9 @@ pub const WAIT_LIST: usize = 12;
 // The same as a word, for what guests and records count.
 pub const WAIT_COUNT: u32 = WAIT_LIST as u32;
 
-#[derive(Clone, Copy, PartialEq, Eq)]
+#[derive(Clone, Copy, Default, PartialEq, Eq)]
 pub enum ThreadStatus {
+    #[default]
     Dead,
     Running,
     Ready,
@@ -41,7 +44,8 @@ pub enum WaitSyscall {
     SleepThread,
 }
 
-#[derive(Clone, Copy)]
+// By default a place that no thread has yet.
+#[derive(Clone, Copy, Default)]
 pub struct Thread {
     pub status: ThreadStatus,
     // 0 is the most urgent, 63 the least.

@@ -6,46 +6,44 @@ ghost use Rattle.units.specs.Ticks.{nanos_to_ticks};
 
 // Nanoseconds, as guest calls give times. The number is private to this crate: no other way leads from it to ticks than
 // nanos_to_ticks.
-#[derive(Clone, Copy, PartialEq, Eq, PartialOrd, Ord)]
+#[derive(Clone, Copy, Default, PartialEq, Eq, PartialOrd, Ord)]
 pub struct Nanos(u64);
 
 // Ticks of the 268,111,856 Hz clock.
-#[derive(Clone, Copy, PartialEq, Eq, PartialOrd, Ord)]
+#[derive(Clone, Copy, Default, PartialEq, Eq, PartialOrd, Ord)]
 pub struct Ticks(pub u64);
 
 // The number of an object: its slot plus 1. 0 is no object, as in the words of the block and in the definitions: an
 // Option would have to be told from that 0 at each read and write.
-#[derive(Clone, Copy, PartialEq, Eq, PartialOrd, Ord)]
+#[derive(Clone, Copy, Default, PartialEq, Eq, PartialOrd, Ord)]
 pub struct ObjectId(pub u32);
 
 // A handle that a guest holds.
-#[derive(Clone, Copy, PartialEq, Eq, PartialOrd, Ord)]
+#[derive(Clone, Copy, Default, PartialEq, Eq, PartialOrd, Ord)]
 pub struct Handle(pub u32);
 
-// Two words as nanoseconds, the low one first.
-pub fn nanos_of(low: u32, high: u32) -> Nanos
-    ensures { result.0 ≡ low + high * 4294967296 }
-{
-    Nanos(low as u64 + high as u64 * 4294967296)
-}
+impl Nanos {
+    pub const ZERO: Nanos = Nanos(0);
 
-pub fn zero_nanos() -> Nanos
-    ensures { result.0 ≡ 0 }
-{
-    Nanos(0)
-}
+    // Two words, the low one first.
+    pub fn from_words(low: u32, high: u32) -> Nanos
+        ensures { result.0 ≡ low + high * 4294967296 }
+    {
+        Nanos(low as u64 + high as u64 * 4294967296)
+    }
 
-pub fn is_zero(n: Nanos) -> bool
-    ensures { result ≡ eqb n.0 0 }
-{
-    n.0 == 0
-}
+    pub fn is_zero(self) -> bool
+        ensures { result ≡ eqb self.0 0 }
+    {
+        self.0 == 0
+    }
 
-// Below 0 as a signed number of 64 bits.
-pub fn is_negative(n: Nanos) -> bool
-    ensures { result ≡ ltb 9223372036854775807 n.0 }
-{
-    (i64::MAX as u64) < n.0
+    // Below 0 as a signed number of 64 bits.
+    pub fn is_negative(self) -> bool
+        ensures { result ≡ ltb 9223372036854775807 self.0 }
+    {
+        (i64::MAX as u64) < self.0
+    }
 }
 
 // Nanoseconds in ticks, in two steps that both stay inside 64 bits. The only way from one unit to the other.

@@ -1,17 +1,16 @@
 // The place and the TLS slot that a new thread gets, looked for in a block where it lies (`ended_thread`,
 // `allocate_tls`).
-#![tactic(auto)]
+#![tactic(auto, using(crate::proofs::Steps::steps))]
 
 ghost use Rattle.std.specs.Prelude.{◌≡◌, ◌<◌, ◌≤◌};
 ghost use Rattle.laws.specs.Logic.{◌and◌};
-ghost use Rattle.laws.specs.Tally.{tally};
 ghost use Rattle.types.specs.Thread.{is_dead};
 ghost use Rattle.block.specs.Block.{dec_block};
 ghost use Rattle.sound.specs.View.{thread_at};
-ghost use Rattle.sound.specs.Tls.{held};
 ghost use Rattle.thread.specs.Threads.{unnamed, ended_thread, tls_slot};
 
 use block::Block;
+use question::tls;
 use rows::read;
 use thread::places;
 
@@ -27,7 +26,8 @@ fn unnamed(b: &Block, t: u32) -> bool
 // Thread t ended, and nothing names it any more.
 fn is_ended(b: &Block, t: u32) -> bool
     requires t_bound { t < 32 }
-    ensures { result ≡ (is_dead (thread_at (dec_block b.now).threads t).status and unnamed (dec_block b.now).objects t) }
+    ensures { result ≡ (is_dead (thread_at (dec_block b.now).threads t).status
+        and unnamed (dec_block b.now).objects t) }
 {
     types::thread::is_dead(read::thread_at(b, t).status) && unnamed(b, t)
 }
@@ -46,21 +46,12 @@ pub fn ended_thread(b: &Block) -> u32
     n
 }
 
-// One more for the TLS slot of each live thread.
-fn mark_slots(m: &mut [u32; 129], b: &Block)
-    ensures { m.new ≡ tally 129 m.old (held (dec_block b.now).threads) }
-{
-    for i in 0..32 {
-        tally::tally_slot(m, read::thread_at(b, i));
-    }
-}
-
 // The lowest slot that no live thread holds, of those given out; else the next.
 pub fn tls_slot(b: &Block) -> u32
     ensures value { result ≡ tls_slot (dec_block b.now) }
     ensures upper_bound { result ≤ 32 }
 {
     let mut m = [0u32; 129];
-    mark_slots(&mut m, b);
+    tls::tally_tls(&mut m, b);
     places::free_slot(&m, codec::get32(b, 16).min(32))
 }

@@ -1,2 +1,2 @@
--- The law that the proof of `first_in` cites.
+-- The laws that the proofs of `wait` cite.
 pub mod Place

@@ -1,12 +1,15 @@
 -- The first place of a list whose signal is as wanted, as `position` tells it. Assumes nothing.
 use Rattle.std.specs.Prelude.{◌≡◌, refl, Bool, true, false, not, cond, ltb, List, [], ◌∷◌, ℕ, ◌+◌, length, Option, Some, None}
+use Rattle.std.proofs.lemmas.Grind.{common_steps}
+use Rattle.std.proofs.Common.{le-leb}
 use Rattle.std.proofs.Common.{arith, ap, inl, inr, lt-ltb, le-ltb, ◌∙◌}
 use Rattle.std.specs.List.{position_or_len}
 use Rattle.laws.specs.Logic.{pick, lt-cases}
 use Rattle.units.specs.declared.ObjectId.{ObjectId}
 use Rattle.types.specs.declared.thread.Thread as th
 use Rattle.types.specs.declared.object.Slot.{Slot}
-use Rattle.sound.specs.View.{ids, slot_at}
+use Rattle.sound.specs.View.{ids, slot_at, thread_at-out}
+use Rattle.rows.specs.Sizes.{size-threads}
 use Rattle.pass.specs.Signal.{is_signaled}
 use Rattle.wait.specs.Looks.{as_wanted, first_where}
 
@@ -33,3 +36,5 @@ module _ (ts : List th.Thread) (l : List Slot) (w : ℕ) (want : Bool) where
 
   pub first-place : (os : List ObjectId) → first_where ts l w want 0 (ids os) ≡ cond (ltb (position_or_len wanted os) (length os)) (Some (position_or_len wanted os)) None
   first-place os = from 0 os ∙ ap (λ (k : ℕ). cond (ltb (position_or_len wanted os) (length os)) (Some k) None) (omega arith)
+
+pub ruleset gone = (common_steps, le-leb, size-threads, thread_at-out)

@@ -16,7 +16,8 @@ as_wanted false b = not b
 
 unfoldable pub first_where : List th.Thread → List Slot → ℕ → Bool → ℕ → List ℕ → Option ℕ
 first_where ts l w want i [] = None
-first_where ts l w want i (o ∷ os) = pick (as_wanted want (is_signaled ts (slot_at l o).object w)) (Some i) (first_where ts l w want (i + 1) os)
+first_where ts l w want i (o ∷ os) = pick (as_wanted want (is_signaled ts (slot_at l o).object w)) (Some i)
+    (first_where ts l w want (i + 1) os)
 
 abbrev pub none : Option ℕ → Bool
 none None = true

@@ -15,6 +15,7 @@ use types::object::KObject;
 use units::ObjectId;
 
 // A number past the places counts as Dead.
+#[tactic(auto, using(crate::proofs::Place::gone))]
 fn is_gone(block: &Block, u: u32) -> bool
     ensures { result ≡ is_dead (thread_at (dec_block block.now).threads u).status }
 {
@@ -38,7 +39,8 @@ fn as_wanted(block: &Block, o: ObjectId, w: u32, want: bool) -> bool
 // The first place whose signal for thread w is as wanted.
 fn first_in(block: &Block, list: &[ObjectId], w: u32, want: bool) -> Option<u32>
     requires { length list.now ≤ wait_list }
-    ensures { result ≡ first_where (dec_block block.now).threads (dec_block block.now).objects.slots w want 0 (ids list.now) }
+    ensures { result ≡ first_where (dec_block block.now).threads (dec_block block.now).objects.slots w want 0
+        (ids list.now) }
 {
     let i = list.iter().position(|o| as_wanted(block, *o, w, want))?;
     Some(i as u32)
@@ -56,6 +58,7 @@ fn index_for(all: bool, first: Option<u32>) -> Option<u32>
 }
 
 // The index that a wait of thread w on the list gives now.
+#[tactic(auto, using(crate::specs::Looks::index_is))]
 pub fn satisfied_at(block: &Block, w: u32, all: bool, list: &[ObjectId]) -> Option<u32>
     requires { length list.now ≤ wait_list }
     ensures { result ≡ satisfied_at (dec_block block.now).threads (dec_block block.now).objects w all (ids list.now) }

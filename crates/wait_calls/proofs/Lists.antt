@@ -1,4 +1,5 @@
 -- `wait_synchronization_n`: what it finds, and the call from opened handles on. Assumes nothing.
+use Rattle.std.proofs.lemmas.Grind.{common_steps}
 use Rattle.std.specs.Prelude.{Option, Some, None, Result, Ok, Err}
 use mathlib.Core.Path.{◌≡◌, refl, sym, ap, ◌∙◌}
 use mathlib.Core.Bool.{Bool, true, false, not}
@@ -10,7 +11,7 @@ use lib.Dec.{eqb, ltb}
 use lib.ListN.{length, take, get_or}
 use lib.Seq.{take_all, length-take-le}
 use borrow.Author.Tests.{ltb-true, ltb-false}
-use Rattle.laws.specs.Logic.{pick, ◌or◌, false-true}
+use Rattle.laws.specs.Logic.{pick, ◌or◌}
 use Rattle.laws.specs.All.{All}
 use Rattle.units.specs.declared.ObjectId.{ObjectId}
 use Rattle.types.specs.declared.thread.WaitSyscall.TheVariants.{WaitSynchronizationN}
@@ -20,7 +21,7 @@ use Rattle.types.specs.declared.refusal.Refusal.{Refusal}
 use Rattle.types.specs.Refusal.{unless_found, unless-ok}
 use Rattle.types.specs.Thread.{wait_list}
 use Rattle.block.specs.Block.{dec_block}
-use Rattle.sound.specs.View.{object_at}
+use Rattle.sound.specs.View.{object_at, first_ids}
 use Rattle.kernel.specs.NextEvent.{contains}
 use Rattle.thread.specs.Threads.{least}
 use Rattle.pass.specs.Asks.{padded}
@@ -56,11 +57,6 @@ module _ (b : List ℕ) (k : Kernel) (i : ℕ) (a : Result (Unit {0}) Refusal) (
 
   pub gives-done : (u : Unit {0}) → a ≡ Ok u → (Ok (given i) ≡ outcome (gives k i)) × (x ≡ left (gives k i) b)
   gives-done u q = (sym (outcome-0 (gives k i) (unless-ok _ tt u (sym f ∙ q))), e ∙ same_left k i b)
-
--- a wait for all is not one for any
-pub for-all : {P : Type 0} → (true ≡ false) ⊎ P → P
-for-all (inl e) = false-true (sym e)
-for-all (inr p) = p
 
 -- ---- the call from the opened handles on
 take-is : (f : Option ℕ) (k : Kernel) (c : ℕ) (os : List ℕ) (all : Bool) (nanos tick : ℕ) → length os ≤ wait_list
@@ -189,3 +185,7 @@ module _ (b : List ℕ) (s : ObjectStore) (os : List ℕ) (all : Bool) (nanos ti
     pub as_fits : (t : Option ℕ) → over_as t ≡ s.overflow
     as_fits None = refl
     as_fits (Some c) = at-fits (satisfied_at (dec_block b).threads s c all os) c
+
+pub ruleset takes = (common_steps, first_ids, unless-ok, outcome-0, left-0, gives-done)
+
+pub ruleset lists = (common_steps, first_ids, waits, settles)

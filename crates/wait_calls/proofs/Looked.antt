@@ -1,13 +1,13 @@
 -- A list of handles looked up as they are. Assumes nothing.
 use mathlib.Core.Path.{◌≡◌, refl, sym, ap, ◌∙◌}
-use mathlib.Core.Bool.{Bool, true, false, not}
+use mathlib.Core.Bool.{Bool, true, false}
 use mathlib.Core.List.{List, [], ◌∷◌, ◌++◌, map}
-use Prim.Native.Nat.{ℕ, ◌+◌, ◌≤◌, ◌<◌}
+use Prim.Native.Nat.{ℕ, ◌+◌, ◌<◌}
 use native.Mathlib.Numerals.{add-one}
 use native.Mathlib.Omega.{arith}
 use lib.Dec.{eqb}
 use lib.ListN.{length, take, set, get_or, replicate, length-map, get_or-map}
-use lib.Seq.{take-suc, take_all, length-take-le}
+use lib.Seq.{take-suc, length-take-le}
 use Rattle.laws.specs.Logic.{◌or◌, or-end}
 use Rattle.units.specs.declared.ObjectId.{ObjectId}
 use Rattle.types.specs.declared.kernel.Kernel.{Kernel}
@@ -35,11 +35,6 @@ module _ (k : Kernel) (hs : List ℕ) where
 
   size : length found ≡ length hs
   size = length-map hs (open_object k)
-
-  pub looked-all : (l : List ObjectId) (unknown : Bool) (i : ℕ) → Looking l unknown i → length hs ≤ i → (l ≡ padded wait_list found) × (not unknown ≡ not (contains found 0))
-  looked-all l unknown i v h =
-      let e : take i found ≡ found = take_all i found (omega (arith, size)) in
-      (v.0 ∙ ap (padded wait_list) e, ap not (v.1 ∙ ap (λ (x : List ℕ). contains x 0) e))
 
   pub looked-more : (l : List ObjectId) (unknown : Bool) (i : ℕ) → Looking l unknown i → i < length hs → i < wait_list → (o : ObjectId) → o.0 ≡ open_object k (get_or hs i 0) → Looking (set l i o) (unknown or eqb o.0 0) (i + 1)
   looked-more l unknown i v j m o e =

@@ -1,4 +1,5 @@
 -- What is found of objects that a wait takes, and the block with them taken. Assumes nothing.
+use Rattle.std.proofs.lemmas.Grind.{common_steps}
 use Rattle.std.specs.Prelude.{Some, Result, Ok, Err}
 use mathlib.Core.Path.{◌≡◌, refl, sym, ap, ◌∙◌}
 use mathlib.Core.Bool.{Bool, true, false}
@@ -87,3 +88,5 @@ module _ (b : List ℕ) (n : out_of_handles? (dec_block b) ≡ false) (w : ℕ) 
 
     pub list-left : (e : List ℕ) → sound? e ≡ true → dec_block e ≡ with_threads (dec_block b) (dec_block b).threads all → e ≡ enc_block (with_objects (dec_block b) all)
     list-left e s d = holds_after b n all all-full e s d
+
+pub ruleset takings = (common_steps, taker_lives, taken-finding, taken-left, list-finding, list-left)

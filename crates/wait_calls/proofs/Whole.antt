@@ -1,5 +1,7 @@
 -- The whole of `wait_synchronization_n` on the block b, by the code's cases. Assumes nothing.
-use Rattle.std.specs.Prelude.{Option, Some, None}
+use Rattle.std.specs.Prelude.{Option, Some, None, Result, Ok, Err}
+use Rattle.types.specs.declared.refusal.Refusal.{Refusal}
+use Rattle.types.specs.Refusal.{refusal_number, refusal-some, unless_found}
 use mathlib.Core.Path.{◌≡◌, refl, sym, ap, subst, ◌∙◌}
 use mathlib.Core.Bool.{Bool, true, false, not}
 use mathlib.Core.List.{List, [], ◌∷◌, map}
@@ -9,8 +11,6 @@ use lib.Dec.{eqb}
 use lib.ListN.{length, take, length-map}
 use borrow.Author.Tests.{not-true}
 use Rattle.laws.specs.Logic.{pick, ◌and◌, ◌or◌, or-false, false-true}
-use Rattle.codec.specs.Bytes as bytes
-use Rattle.codec.proofs.Laws.{over-all}
 use Rattle.units.specs.declared.ObjectId.{ObjectId}
 use Rattle.types.specs.declared.object.HandleTable.{HandleTable}
 use Rattle.types.specs.declared.object.ObjectStore.{ObjectStore}
@@ -38,7 +38,7 @@ use Rattle.svc.proofs.Handles.{plain}
 use Rattle.calling.specs.Timers.{caught-parts}
 use Rattle.parking.specs.Lists.{store-overflow}
 use Rattle.lent.specs.Operations.{finding, out_of_handles?}
-use Rattle.outcome.specs.Findings.{found_of, none_found, parts-finding}
+use Rattle.outcome.specs.Findings.{found_of, none_found, parts-finding, room-none, room-refused}
 use Rattle.rows.specs.Holds.{holds}
 use Rattle.rows.specs.Current.{current-place}
 use Rattle.due.proofs.Caught.{none-due}
@@ -90,10 +90,6 @@ module _ (k : Kernel) (tick : ℕ) where
       let p : (caught_up k tick).objects.process_object.0 ≡ k.objects.process_object.0 = ap (λ (s : ObjectStore). s.process_object.0) e in
       (λ i. lacking (eqb (f i) 0) (eqb (next_of (object_at (caught_up k tick).objects (f i))) 0) (same_kept c i and met c t 0xFFFF8000 hs) (eqb (p i) 0 and met c t 0xFFFF8001 hs))
       ∙ ap (λ (n : ℕ). lacking (eqb k.objects.free 0) (eqb n 0) (makes_current k.objects c and met c t 0xFFFF8000 hs) (eqb k.objects.process_object.0 0 and met c t 0xFFFF8001 hs)) (same_next k.objects.free)
-
--- a copy of the whole
-pub copied : (x a b : List ℕ) → x ≡ bytes.over a 0 b → length b ≡ length a → x ≡ b
-copied x a b e h = e ∙ over-all a b h
 
 -- ---- on the block b
 module _ (b : List ℕ) (sd : sound? b ≡ true) (r : Registers) (words : List ℕ) (n tick : ℕ) (z : length words ≡ wait_list) where
@@ -185,6 +181,28 @@ module _ (b : List ℕ) (sd : sound? b ≡ true) (r : Registers) (words : List �
 
     pub ready : (l : List ObjectId) (known fires : Bool) → l ≡ padded wait_list (map (open_object k) hs) → known ≡ not (contains (map (open_object k) hs) 0) → fires ≡ timer_due tick k.objects.slots → Ready k words n l known fires tick
     ready l known fires e f g = record { size = z; objects = e; looked = f; due = g; fits = down.1.0; handles = down.1.1; room = down.0 }
+
+  -- a is what is answered before the first write, by whether the handles h are known and whether room is lacking
+  module _ (known full : Bool) (p : known ≡ not (contains (map (open_object k) hs) 0)) (h : List ℕ) (e : h ≡ hs)
+      (f : full ≡ pick known false (lacks_room k.current_thread k.handles k.objects h)) (a : Result (Unit {0}) Refusal)
+      (g : a ≡ unless_found (found_of full (caught.objects.overflow or out_of_handles? k)) tt) where
+    before-is : found_of full (caught.objects.overflow or out_of_handles? k) ≡ before
+    before-is =
+        let w = f ∙ ap (λ (x : List ℕ). pick known false (lacks_room k.current_thread k.handles k.objects x)) e in
+        ap (λ (y : Bool). found_of y (caught.objects.overflow or out_of_handles? k)) (full-before known full p w)
+
+    pub asked-some : (y : Refusal) → a ≡ Err y → finding call.kernel ≡ refusal_number y
+    asked-some y q =
+        let m : before ≡ refusal_number y = sym before-is ∙ room-refused full _ tt y (sym g ∙ q) in
+        call-refused (λ w. refusal-some y (sym m ∙ w)) ∙ m
+
+    module _ (u : Unit {0}) (q : a ≡ Ok u) where
+      pub asked-none : before ≡ 0
+      asked-none = sym before-is ∙ room-none full _ tt u (sym g ∙ q)
+
+      pub asked-ready : (l : List ObjectId) (fires : Bool) → l ≡ padded wait_list (map (open_object k) hs)
+          → fires ≡ timer_due tick k.objects.slots → Ready k words n l known fires tick
+      asked-ready l fires el ef = ready asked-none l known fires el p ef
 
 -- ---- from there on
 module _ (b : List ℕ) (sd : sound? b ≡ true) (r : Registers) (words : List ℕ) (n : ℕ) (l : List ObjectId) (known fires : Bool) (tick : ℕ) (g : Ready (dec_block b) words n l known fires tick) where

@@ -1,11 +1,12 @@
 -- Places of a list of words, and of a list of objects. Assumes nothing.
-use mathlib.Core.Path.{◌≡◌, sym, ap, ◌∙◌}
+use Rattle.std.proofs.lemmas.Grind.{common_steps}
+use Rattle.laws.specs.Logic.{pick_yes, pick_no, and_yes, and_no, or_yes, or_no}
+use mathlib.Core.Path.{◌≡◌, ◌∙◌}
 use mathlib.Core.List.{List, [], ◌∷◌}
 use Prim.Native.Nat.{ℕ, ◌+◌, ◌≤◌, ◌<◌}
 use native.Mathlib.Numerals.{add-one}
-use lib.ListN.{length, take, drop, get_or, length-map, drop_of_length-le, get_or-map}
+use lib.ListN.{length, drop, get_or, length-map, drop_of_length-le, get_or-map}
 use lib.Seq.{drop-cons}
-use Rattle.std.proofs.lemmas.List.{take-map, get_or_default}
 use Rattle.units.specs.declared.ObjectId.{ObjectId}
 use Rattle.sound.specs.View.{ids}
 
@@ -24,13 +25,6 @@ ids-next l i h =
 pub ids-end : (l : List ObjectId) (i : ℕ) → length l ≤ i → drop i (ids l) ≡ []
 ids-end l i h = let e : length (ids l) ≤ i = simp length-map h in words-end (ids l) i e
 
-pub first_ids : (l : List ObjectId) (n : ℕ) → ids (take n l) ≡ take n (ids l)
-first_ids l n = sym (take-map (λ (o : ObjectId). o.0) n l)
+pub ruleset steps = (common_steps, pick_yes, pick_no, words-next, words-end)
 
-abbrev no_id : ObjectId
-no_id = record { 0 = 0 }
-
--- the object at a place of the first n
-pub object-here : (l : List ObjectId) (n i : ℕ) (d : ObjectId) → i < length (take n l) → (get_or (take n l) i d).0 ≡ get_or (take n (ids l)) i 0
-object-here l n i d h =
-    ap (λ (o : ObjectId). o.0) (get_or_default (take n l) i d no_id h) ∙ sym (get_or-map (λ (o : ObjectId). o.0) (take n l) i no_id) ∙ ap (λ (x : List ℕ). get_or x i 0) (first_ids l n)
+pub ruleset cases = (common_steps, and_yes, and_no, or_yes, or_no)

@@ -44,7 +44,8 @@ wait_as_in None k l n all nanos tick = done k
 wait_as_in (Some c) k l n all nanos tick = take_in
     (satisfied_at k.threads k.objects c all (take n (ids l))) k c l n all nanos tick
 
--- `wait_synchronization_n` once the timers have fired and the handles are open: k is the state then, with the objects if each names one
+-- `wait_synchronization_n` once the timers have fired and the handles are open: k is the state then, with the objects
+-- if each names one
 abbrev pub wait_in : Kernel → Option (List ObjectId) → ℕ → Registers → ℕ → Served
 wait_in k None n r tick = answers invalid_handle k
 wait_in k (Some l) n r tick = wait_as_in k.current_thread k l n (not (eqb r.r3 0)) (pair r.r0 r.r4) tick

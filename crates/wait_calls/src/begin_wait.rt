@@ -10,10 +10,10 @@ ghost use Rattle.rows.specs.Holds.{Holds};
 ghost use Rattle.svc.specs.Waits as def;
 ghost use Rattle.wait_calls.specs.Waits.{wait_on_in};
 
-use crate::list;
 use block::Block;
 use object::store;
 use rows::{read, write};
+use types::list;
 use types::thread::{Thread, WAIT_LIST, WaitSyscall};
 use units::{Nanos, ObjectId, Ticks};
 
@@ -31,7 +31,7 @@ pub struct WaitFor {
 fn wait_time(nanos: Nanos) -> Option<Ticks>
     ensures { result ≡ def.wait_time nanos.0 }
 {
-    if svc::read::negative(nanos) {
+    if nanos.is_negative() {
         return None;
     }
     Some(units::nanos_to_ticks(nanos))

@@ -9,9 +9,9 @@ ghost use Rattle.svc.specs.Waits.{resolve_store};
 ghost use Rattle.lent.specs.Operations.{out_of_handles?};
 ghost use Rattle.wait_calls.specs.Opens.{Opens};
 
-use crate::list;
 use asked::open;
 use block::Block;
+use types::list;
 use types::thread::WAIT_LIST;
 use units::{Handle, ObjectId};
 
@@ -23,7 +23,8 @@ pub struct Looked {
     pub known: bool,
 }
 
-// The first n handles as they are; a pseudo-handle counts as unknown, since its object may have to be made.
+// The first n handles as they are, an array and a count as in `dispatch`; a pseudo-handle counts as unknown, since its
+// object may have to be made.
 pub fn look_up(block: &Block, words: [u32; WAIT_LIST], n: u32) -> Looked
     ensures objects_value { result.objects ≡ padded wait_list (map (open_object (dec_block block.now)) (take n words)) }
     ensures known_value { result.known ≡ not (contains (map (open_object (dec_block block.now)) (take n words)) 0) }

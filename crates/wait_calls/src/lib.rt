@@ -3,7 +3,6 @@
 
 pub mod begin_wait;
 pub mod handles;
-pub mod list;
 pub mod many;
 pub mod near;
 pub mod one;

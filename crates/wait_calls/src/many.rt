@@ -1,8 +1,7 @@
 // `wait_synchronization_n` (svc.rs).
-ghost use Rattle.std.specs.Prelude.{◌≡◌, true, false, not, ◌⊎◌, eqb, take, get_or, Some};
+ghost use Rattle.std.specs.Prelude.{◌≡◌, true, false, not, ◌⊎◌, eqb, take, Some};
 ghost use Rattle.laws.specs.Logic.{pick};
 ghost use Rattle.block.specs.Block.{dec_block};
-ghost use Rattle.sound.specs.View.{ids};
 ghost use Rattle.sound.specs.Question.{sound?};
 ghost use Rattle.svc.specs.Waits as def;
 ghost use Rattle.lent.specs.Operations.{finding, out_of_handles?};
@@ -12,29 +11,21 @@ ghost use Rattle.wait_calls.specs.Opens.{Ready};
 ghost use Rattle.wait_calls.specs.Room.{lacks_room};
 
 use crate::begin_wait::WaitFor;
-use crate::{begin_wait, handles, list, near, room, taken};
+use crate::handles::Looked;
+use crate::{begin_wait, handles, near, room, taken};
 use block::Block;
 use outcome::{Answer, Outcome};
 use rows::read;
 use svc::Registers;
-use thread::places;
 use timer_calls::caught;
+use types::list;
 use types::refusal::Refusal;
 use types::thread::{WAIT_COUNT, WAIT_LIST, WaitSyscall};
-use units::{ObjectId, Ticks};
-
-// The object at a place of the first n; none past them.
-fn object_at(l: [ObjectId; WAIT_LIST], n: u32, i: u32) -> ObjectId
-    ensures { result.0 ≡ get_or (take n (ids l)) i 0 }
-{
-    match list::first(&l, n).get(i as usize) {
-        Some(o) => *o,
-        None => ObjectId(0),
-    }
-}
+use units::{Nanos, ObjectId, Ticks};
 
 // Every object is taken, one after the other. If it is refused those before are taken already, and the block is left
 // open: `wait_saved` puts back a copy.
+#[tactic(auto, using(crate::proofs::Lists::takes))]
 fn take_all(block: &mut Block, w: WaitFor, i: u32) -> Result<Outcome, Refusal>
     requires block_value { sound? block.old ≡ true }
     requires block_value_2 { out_of_handles? (dec_block block.old) ≡ false }
@@ -49,6 +40,7 @@ fn take_all(block: &mut Block, w: WaitFor, i: u32) -> Result<Outcome, Refusal>
 
 // A wait for all takes every object, one for any the one at the index; r1 gets the index. Where one for all finds
 // something the block is left open, as by `take_all`.
+#[tactic(auto, using(crate::proofs::Lists::takes))]
 fn take_at(block: &mut Block, w: WaitFor, i: u32) -> Result<Outcome, Refusal>
     requires block_value { sound? block.old ≡ true }
     requires block_value_2 { out_of_handles? (dec_block block.old) ≡ false }
@@ -60,7 +52,11 @@ fn take_at(block: &mut Block, w: WaitFor, i: u32) -> Result<Outcome, Refusal>
     if w.all {
         return take_all(block, w, i);
     }
-    taken::take(block, object_at(w.list, w.count, i), w.thread)?;
+    taken::take(
+        block,
+        take::object_at(list::first(&w.list, w.count), i),
+        w.thread,
+    )?;
     Ok(outcome::gives(i))
 }
 
@@ -83,8 +79,8 @@ fn wait_at(
 {
     match found {
         None => {
-            if units::is_zero(w.timeout) {
-                return Ok(outcome::answers(Answer::TimedOut));
+            if w.timeout.is_zero() {
+                return Ok(Outcome::from(Answer::TimedOut));
             }
             begin_wait::begin_wait(block, w, tick, Some(WaitSyscall::WaitSynchronizationN));
             Ok(outcome::silent())
@@ -95,6 +91,7 @@ fn wait_at(
 
 // The call once the timers have fired and the handles are open: they name the first n of the objects, unless one is
 // unknown. Where a wait for all finds something the block is left open, as by `take_all`.
+#[tactic(auto, using(crate::proofs::Lists::lists))]
 fn wait_list(
     block: &mut Block,
     r: Registers,
@@ -110,7 +107,7 @@ fn wait_list(
         → block.new ≡ left (wait_in (dec_block block.old) objects n r tick.0) block.old }
 {
     let Some(l) = objects else {
-        return Ok(outcome::answers(Answer::UnknownHandle));
+        return Ok(Outcome::from(Answer::UnknownHandle));
     };
     let Some(c) = read::current(block) else {
         return Ok(outcome::done());
@@ -120,36 +117,35 @@ fn wait_list(
         list: l,
         count: n,
         all: r.r3 != 0,
-        timeout: svc::read::pair(r.r0, r.r4),
+        timeout: Nanos::from_words(r.r0, r.r4),
     };
     let found = wait::satisfied_at(block, w.thread, w.all, list::first(&w.list, w.count));
     wait_at(block, found, w, tick)
 }
 
-// Timers that came due fire, the handles are opened unless all are known, then the thread waits. l and known are what
-// the handles name before. Where the wait finds something and some of that is done the block is left open: `wait_saved`
-// puts back a copy, and `may_find` tells where none is needed.
+// Timers that came due fire, the handles are opened unless all are known, then the thread waits. What is looked up is
+// what the handles name before. Where the wait finds something and some of that is done the block is left open:
+// `wait_saved` puts back a copy, and `may_find` tells where none is needed.
 fn wait_caught(
     block: &mut Block,
     r: Registers,
     words: [u32; WAIT_LIST],
     n: u32,
-    l: [ObjectId; WAIT_LIST],
-    known: bool,
+    looked: Looked,
     fires: bool,
     tick: Ticks,
 ) -> Result<Outcome, Refusal>
     requires block_value { sound? block.old ≡ true }
-    requires ready { Ready (dec_block block.old) words n l known fires tick.0 }
+    requires ready { Ready (dec_block block.old) words n looked.objects looked.known fires tick.0 }
     ensures value { result ≡ outcome (def.wait_synchronization_n (dec_block block.old) r (take n words) tick.0) }
-    ensures block_after { (((not (eqb r.r3 0) ≡ false) × ((fires ≡ false) × (known ≡ true)))
+    ensures block_after { (((not (eqb r.r3 0) ≡ false) × ((fires ≡ false) × (looked.known ≡ true)))
         ⊎ (finding (def.wait_synchronization_n (dec_block block.old) r (take n words) tick.0).kernel ≡ 0))
         → block.new ≡ left (def.wait_synchronization_n (dec_block block.old) r (take n words) tick.0) block.old }
 {
     caught::catch_up_if(block, fires, tick);
-    let m = places::least_of(n, WAIT_COUNT);
-    if known {
-        return wait_list(block, r, Some(l), m, tick);
+    let m = n.min(WAIT_COUNT);
+    if looked.known {
+        return wait_list(block, r, Some(looked.objects), m, tick);
     }
     let objects = handles::open_list(block, words, n);
     wait_list(block, r, objects, m, tick)
@@ -161,22 +157,20 @@ fn wait_saved(
     r: Registers,
     words: [u32; WAIT_LIST],
     n: u32,
-    l: [ObjectId; WAIT_LIST],
-    known: bool,
+    looked: Looked,
     fires: bool,
     tick: Ticks,
 ) -> Result<Outcome, Refusal>
     requires block_value { sound? block.old ≡ true }
-    requires ready { Ready (dec_block block.old) words n l known fires tick.0 }
+    requires ready { Ready (dec_block block.old) words n looked.objects looked.known fires tick.0 }
     ensures value { result ≡ outcome (def.wait_synchronization_n (dec_block block.old) r (take n words) tick.0) }
     ensures block_after { block.new ≡ left
         (def.wait_synchronization_n (dec_block block.old) r (take n words) tick.0) block.old }
 {
-    let mut saved = [0u8; 16384];
-    codec::copy(&mut saved, 0, block);
-    let o = wait_caught(block, r, words, n, l, known, fires, tick);
+    let saved = *block;
+    let o = wait_caught(block, r, words, n, looked, fires, tick);
     if o.is_err() {
-        codec::copy(block, 0, &saved);
+        *block = saved;
     }
     o
 }
@@ -191,8 +185,8 @@ fn full_if(block: &Block, handles: &[u32], known: bool) -> bool
 }
 
 // r3 whether for all, r0 and r4 nanoseconds; the handles are the first n words, which stand in fixed memory with their
-// count beside them. What is found before the wait is looked
-// for before the first write, since a finding must leave the block as it was.
+// count beside them. What is found before the wait is looked for before the first write, since a finding must leave the
+// block as it was.
 pub fn wait_synchronization_n(
     block: &mut Block,
     r: Registers,
@@ -205,20 +199,18 @@ pub fn wait_synchronization_n(
     ensures block_after { block.new ≡ left
         (def.wait_synchronization_n (dec_block block.old) r (take n words) tick.0) block.old }
 {
-    let x = handles::look_up(block, words, n);
-    let l = x.objects;
-    let known = x.known;
-    let full = full_if(block, list::first(&words, n), known);
+    let looked = handles::look_up(block, words, n);
+    let full = full_if(block, list::first(&words, n), looked.known);
     let fires = due::timer_due(block, tick);
     caught::found_before(block, full, fires, tick)?;
     if near::may_find(
         block,
-        list::first(&l, places::least_of(n, WAIT_COUNT)),
+        list::first(&looked.objects, n.min(WAIT_COUNT)),
         r.r3 != 0,
         fires,
-        known,
+        looked.known,
     ) {
-        return wait_saved(block, r, words, n, l, known, fires, tick);
+        return wait_saved(block, r, words, n, looked, fires, tick);
     }
-    wait_caught(block, r, words, n, l, known, fires, tick)
+    wait_caught(block, r, words, n, looked, fires, tick)
 }

@@ -32,6 +32,7 @@ fn any_near(block: &Block, list: &[ObjectId]) -> bool
 }
 
 // A wait for any on objects that are all there, with no timer due, writes nothing before it takes.
+#[tactic(auto, using(crate::proofs::Words::cases))]
 pub fn may_find(block: &Block, list: &[ObjectId], all: bool, fires: bool, known: bool) -> bool
     ensures { result ≡ def.may_find (dec_block block.now).objects (ids list.now) all fires known }
 {

@@ -20,6 +20,7 @@ use types::thread::{WAIT_LIST, WaitSyscall};
 use units::{Handle, Nanos, ObjectId, Ticks};
 
 // A time-out of 0 does not wait.
+#[tactic(auto, using(crate::proofs::Lists::takes))]
 fn wait_one(
     block: &mut Block,
     c: u32,
@@ -38,8 +39,8 @@ fn wait_one(
         taken::take(block, o, c)?;
         return Ok(outcome::done());
     }
-    if units::is_zero(nanos) {
-        return Ok(outcome::answers(Answer::TimedOut));
+    if nanos.is_zero() {
+        return Ok(Outcome::from(Answer::TimedOut));
     }
     let mut l = [ObjectId(0); WAIT_LIST];
     l[0] = o;
@@ -67,12 +68,12 @@ fn wait_opened(
     ensures block_after { block.new ≡ left (wait1_opened (dec_block block.old) o.0 r tick.0) block.old }
 {
     if o.0 == 0 {
-        return Ok(outcome::answers(Answer::UnknownHandle));
+        return Ok(Outcome::from(Answer::UnknownHandle));
     }
     let Some(c) = read::current(block) else {
         return Ok(outcome::done());
     };
-    wait_one(block, c, o, svc::read::pair(r.r2, r.r3), tick)
+    wait_one(block, c, o, Nanos::from_words(r.r2, r.r3), tick)
 }
 
 // A pseudo-handle names a thread or the process, of which a wait finds nothing; its object may have to be made.

@@ -11,6 +11,7 @@ use rows::read;
 use units::{Handle, ObjectId};
 
 // Whether the pseudo-handle p is among the handles, before one that names no object.
+#[tactic(auto, using(crate::proofs::Words::steps), unfolding(crate::specs::Room::met))]
 fn met(block: &Block, handles: &[u32], p: Handle) -> bool
     ensures { result ≡ def.met (dec_block block.now).current_thread (dec_block block.now).handles p.0 handles.now }
 {
@@ -26,6 +27,7 @@ fn met(block: &Block, handles: &[u32], p: Handle) -> bool
 }
 
 // And its object is yet to be made.
+#[tactic(auto, using(crate::proofs::Words::cases))]
 fn wants(block: &Block, handles: &[u32], p: Handle) -> bool
     ensures { result ≡ (makes (dec_block block.now) p.0 and def.met (dec_block block.now).current_thread
         (dec_block block.now).handles p.0 handles.now) }
@@ -34,6 +36,7 @@ fn wants(block: &Block, handles: &[u32], p: Handle) -> bool
 }
 
 // With no slot free one object is too many, with one slot two are.
+#[tactic(auto, using(crate::proofs::Words::cases))]
 fn lacking(none: bool, one: bool, thread: bool, process: bool) -> bool
     ensures { result ≡ def.lacking none one thread process }
 {

@@ -28,6 +28,7 @@ pub fn over_now(block: &Block, o: ObjectId) -> bool
 }
 
 // Refused, with the block as it is, if the lock count of a mutex does not fit any more.
+#[tactic(auto, using(crate::proofs::Takes::takings))]
 pub fn take(block: &mut Block, o: ObjectId, w: u32) -> Result<(), Refusal>
     requires block_value { sound? block.old ≡ true }
     requires block_value_2 { out_of_handles? (dec_block block.old) ≡ false }
@@ -42,6 +43,7 @@ pub fn take(block: &mut Block, o: ObjectId, w: u32) -> Result<(), Refusal>
 
 // One after the other, each with what those before left. If it is refused those before it are taken already, and the
 // block is left open: `wait_saved` puts back a copy.
+#[tactic(auto, using(crate::proofs::Takes::takings))]
 pub fn take_list(block: &mut Block, list: &[ObjectId], w: u32) -> Result<(), Refusal>
     requires block_value { sound? block.old ≡ true }
     requires block_value_2 { out_of_handles? (dec_block block.old) ≡ false }

@@ -1,4 +1,4 @@
-use Rattle.std.proofs.Common.{refl, sym, ap, subst, arith, drop, ◌∙◌}
+use Rattle.std.proofs.Common.{sym, ap, subst, arith, drop, ◌∙◌}
 use Rattle.std.specs.Prelude.{◌+◌, ◌≤◌, ◌<◌, length}
 use Rattle.std.proofs.Math.Seq.{take_all}
 use Rattle.laws.specs.All.{all-take-more}
@@ -11,9 +11,6 @@ use Rattle.signal.specs.Marks.{sync_list, sync_lists}
 use Rattle.rows.specs.Sizes.{size-threads}
 use Rattle.due.proofs.Looked.{thread-is}
 use Rattle.due.proofs.mark_lists.Goals as goal
-
-pub loop-i-init : goal.loop-i-init
-loop-i-init c = record { marks = refl; short = tt }
 
 pub loop-i-preserved : goal.loop-i-preserved
 loop-i-preserved c =

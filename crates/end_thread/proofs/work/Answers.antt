@@ -10,25 +10,10 @@ use Rattle.thread.specs.Threads.{end_thread}
 use Rattle.lent.specs.Lent.{lent, with_block, back}
 use Rattle.lent.specs.Operations.{finding, end_refusal}
 use Rattle.lent.specs.Operations as operation
-use Rattle.lent.proofs.Cases.{change-1, change-2, change-own, change-found, change-0}
+use Rattle.lent.proofs.Cases.{change-own, change-found, change-0}
 use Rattle.outcome.specs.Findings.{found-finding}
 use Rattle.end_thread.proofs.Place.{found-refusal, refusal-place}
 use Rattle.end_thread.proofs.work.Goals as goal
-
-pub returns-in_default : goal.returns-in_default
-unfolding operation.end_thread
-returns-in_default c =
-    let l = lent c.args.block.now [] [] [] [] in
-    let id = c.args.id in
-    change-1 _ (end_refusal id) (λ k. end_thread k id) (λ k. back 0 (with_block l (enc_block (end_thread k id)))) l (ne_eqb _ 16384 c.in_default.ensures.cases)
-
-pub returns-then-not-block_ok : goal.returns-then-not-block_ok
-unfolding operation.end_thread
-returns-then-not-block_ok c =
-    let l = lent c.args.block.now [] [] [] [] in
-    let id = c.args.id in
-    let b = c.in-Some.ensures.cases in
-    rw b.same (change-2 _ (end_refusal id) (λ k. end_thread k id) (λ k. back 0 (with_block l (enc_block (end_thread k id)))) l (eq-eqb _ 16384 b.long) (dec_block c.in-Some.block.now) (ap dec_block b.same) _ (c.block_ok.ensures ∙ ap sound? b.same) c.if-not-block_ok.true)
 
 pub returns-in_err-end_refusal : goal.returns-in_err-end_refusal
 unfolding operation.end_thread

@@ -2,14 +2,10 @@ use Rattle.std.proofs.Common.{sym, ap, ◌∙◌}
 use Rattle.std.proofs.Math.ListN.{replicate}
 use borrow.Author.Tests.{eq-eqb, ne_eqb}
 use Rattle.std.specs.Prelude.{length}
-use Rattle.laws.specs.Logic.{and_no, and_yes, true-and}
+use Rattle.laws.specs.Logic.{and_yes, true-and}
 use Rattle.codec.proofs.Laws.{over-all}
 use Rattle.lent.specs.Operations.{fresh_start}
 use Rattle.fresh_start.proofs.work.Goals as goal
-
-pub returns-in_default : goal.returns-in_default
-unfolding fresh_start
-returns-in_default c = rw (and_no _ _ (ne_eqb _ 16384 c.in_default.ensures.cases))
 
 pub returns-in_default-as_mut_array : goal.returns-in_default-as_mut_array
 unfolding fresh_start

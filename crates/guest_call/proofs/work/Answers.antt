@@ -6,8 +6,8 @@ use mathlib.Core.Bool.{true}
 use mathlib.Core.List.{List, []}
 use Prim.Native.Nat.{ℕ}
 use lib.ListN.{length, take}
-use borrow.Author.Tests.{eq-eqb, ne_eqb}
-use Rattle.laws.specs.Logic.{and_no, and_yes, true-and}
+use borrow.Author.Tests.{eq-eqb}
+use Rattle.laws.specs.Logic.{true-and}
 use Rattle.types.specs.declared.kernel.Kernel.{Kernel}
 use Rattle.block.specs.Block.{enc_block, dec_block}
 use Rattle.svc.specs.declared.Registers.{Registers}
@@ -25,7 +25,7 @@ use Rattle.lent.specs.Lent.{Lent, lent, Back, back}
 use Rattle.lent.specs.Operations.{finding}
 use Rattle.lent.specs.Guest.{registers, words_in, served, served_written}
 use Rattle.lent.specs.Guest as guest
-use Rattle.lent.proofs.Cases.{change-1, change-2, change-own, change-found, change-0, nothing-full}
+use Rattle.lent.proofs.Cases.{change-own, change-found, change-0, nothing-full}
 use Rattle.guest_call.proofs.work.Goals as goal
 
 same_value : {x y : Outcome} → ◌≡◌ {A = Result Outcome Refusal} (Ok x) (Ok y) → x ≡ y
@@ -39,18 +39,6 @@ work base number tick l = λ k. (served base number tick l k).kernel
 
 abbrev result : ℕ → ℕ → ℕ → Lent → Kernel → Back
 result base number tick l = λ k. back (served base number tick l k).answer (served_written base number l k (served base number tick l k))
-
-pub returns-then-not-window_ok : goal.returns-then-not-window_ok
-unfolding guest.dispatch
-returns-then-not-window_ok c = let a = c.args in
-    let l = lent a.block.now a.bank.now a.processor.now a.window.now [] in
-    change-1 _ (refused a.window_base a.number l) (work a.window_base a.number a.tick.0 l) (result a.window_base a.number a.tick.0 l) l (and_yes _ _ (eq-eqb _ 16384 c.told-block) ∙ (and_yes _ _ (eq-eqb _ 6656 c.told-bank) ∙ (and_yes _ _ (eq-eqb _ 208 c.told-processor) ∙ (sym c.window_ok.ensures ∙ c.if-not-window_ok.true))))
-
-pub returns-then-not-block_ok : goal.returns-then-not-block_ok
-unfolding guest.dispatch
-returns-then-not-block_ok c = let a = c.args in
-    let l = lent a.block.now a.bank.now a.processor.now a.window.now [] in
-    change-2 _ (refused a.window_base a.number l) (work a.window_base a.number a.tick.0 l) (result a.window_base a.number a.tick.0 l) l (true-and _ _ (eq-eqb _ 16384 c.told-block) (true-and _ _ (eq-eqb _ 6656 c.told-bank) (true-and _ _ (eq-eqb _ 208 c.told-processor) (sym c.window_ok.ensures ∙ c.if-not-window_ok.false)))) (dec_block a.block.now) refl _ c.block_ok.ensures (c.if-not-block_ok.true)
 
 pub returns-in_err-allowed : goal.returns-in_err-allowed
 unfolding guest.dispatch
@@ -72,9 +60,6 @@ words_in-words-requires c = let a = c.args in
     let r = c.registers_for-r.result in
     let w = asked a.window_base (length a.window.now) a.number r k (unless-ok _ tt _ (sym c.allowed.ensures ∙ c.in_ok-allowed.was)) in
     record { n_value = c.words_read-n.ensures; r_value = w.0; r_value_2 = w.1 }
-
-pub call-requires : goal.call-requires
-call-requires c = record { block_value = sym c.block_ok.ensures ∙ c.if-not-block_ok.false }
 
 pub returns-in_err-o : goal.returns-in_err-o
 unfolding guest.dispatch

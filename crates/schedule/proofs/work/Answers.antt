@@ -12,8 +12,9 @@ use Rattle.scheduler.specs.Turn.{passed}
 use Rattle.lent.specs.Lent.{Lent, lent, Back, back}
 use Rattle.lent.specs.Operations.{pass_written}
 use Rattle.lent.specs.Operations as operation
-use Rattle.lent.proofs.Cases.{change-1, change-2, change-found, change-0}
-use Rattle.schedule.proofs.Passes.{fine, refused, handles-found, over-found, none_found, pass-is, written_is}
+use Rattle.lent.proofs.Cases.{change-1, change-found, change-0}
+use Rattle.take.proofs.Taken.{fits-as, refused-as}
+use Rattle.schedule.proofs.Passes.{handles-found, over-found, none_found, pass-is, written_is}
 use Rattle.schedule.proofs.work.Goals as goal
 
 abbrev work : ℕ → Kernel → Kernel
@@ -25,13 +26,6 @@ result l tick = λ k. back 0 (pass_written l (schedule k tick))
 -- each of the four is as long as its array
 all_long : (b n p w : ℕ) → b ≡ 16384 → n ≡ 6656 → p ≡ 208 → w ≡ 4 → eqb b 16384 and (eqb n 6656 and (eqb p 208 and eqb w 4)) ≡ true
 all_long b n p w e f g h = true-and _ _ (eq-eqb b 16384 e) (true-and _ _ (eq-eqb n 6656 f) (true-and _ _ (eq-eqb p 208 g) (eq-eqb w 4 h)))
-
-pub returns-in_default : goal.returns-in_default
-unfolding operation.schedule
-returns-in_default c =
-    let a = c.args in
-    let l = lent a.block.now a.bank.now a.processor.now [] a.answer.now in
-    change-1 _ (λ k. 0) (work a.tick.0) (result l a.tick.0) l (and_no _ _ (ne_eqb _ 16384 c.in_default.ensures.cases))
 
 pub returns-in_default-as_mut_array : goal.returns-in_default-as_mut_array
 unfolding operation.schedule
@@ -60,17 +54,6 @@ returns-in_default-as_mut_array-3 c =
     let p = c.in-Some-as_mut_array-2.ensures.cases in
     rw (b.same, n.same, p.same) (change-1 _ (λ k. 0) (work a.tick.0) (result l a.tick.0) l (and_yes _ _ (eq-eqb _ 16384 b.long) ∙ and_yes _ _ (eq-eqb _ 6656 n.long) ∙ and_yes _ _ (eq-eqb _ 208 p.long) ∙ ne_eqb _ 4 c.in_default-as_mut_array-3.ensures.cases))
 
-pub returns-then-not-block_ok : goal.returns-then-not-block_ok
-unfolding operation.schedule
-returns-then-not-block_ok c =
-    let a = c.args in
-    let l = lent a.block.now a.bank.now a.processor.now [] a.answer.now in
-    let b = c.in-Some.ensures.cases in
-    let n = c.in-Some-as_mut_array.ensures.cases in
-    let p = c.in-Some-as_mut_array-2.ensures.cases in
-    let w = c.in-Some-as_mut_array-3.ensures.cases in
-    rw (b.same, n.same, p.same, w.same) (change-2 _ (λ k. 0) (work a.tick.0) (result l a.tick.0) l (all_long _ _ _ _ b.long n.long p.long w.long) (dec_block c.in-Some.block.now) (ap dec_block b.same) _ (c.block_ok.ensures ∙ ap sound? b.same) c.if-not-block_ok.true)
-
 pub returns-then-out_of_handles : goal.returns-then-out_of_handles
 unfolding operation.schedule
 returns-then-out_of_handles c =
@@ -92,7 +75,7 @@ returns-in_err-try_waits c =
     let p = c.in-Some-as_mut_array-2.ensures.cases in
     let w = c.in-Some-as_mut_array-3.ensures.cases in
     let q = err_from_is_err_and c.from_residual.result c.from_residual.ensures.1 in
-    let o = refused _ tt _ (sym c.try_waits.ensures.value ∙ c.in_err-try_waits.was) in
+    let o = refused-as _ tt _ (sym c.try_waits.ensures.value ∙ c.in_err-try_waits.was) in
     let e = c.try_waits.ensures.block_unchanged (c.in_err-try_waits.was ∙ ap Err o.1) ∙ b.same in
     rw (q.1, q.2, o.1, e, n.same, p.same, w.same) (change-found _ (λ k. 0) (work a.tick.0) (result l a.tick.0) l (all_long _ _ _ _ b.long n.long p.long w.long) (dec_block c.in-Some.block.now) (ap dec_block b.same) _ (c.block_ok.ensures ∙ ap sound? b.same) c.if-not-block_ok.false 0 refl refl 8 (over-found c.in-Some.block.now a.tick.0 o.0) (λ e. omega (arith, e)))
 
@@ -119,4 +102,4 @@ returns c =
     rw (c.put_head.ensures, c.write_all.ensures.b_after, c.head_after.ensures) (written_is f e a.tick.0 d s h.result h.ensures m.result m.ensures r.result r.ensures t.result t.ensures c.write_all.ensures.l_len) in
     rw (x.answer_after, x.processor_after, x.bank_after, y, n.same, p.same)
     (ap (λ (z : Passed). back 0 (pass_written l z)) q
-    ∙ change-0 _ (λ k. 0) (work a.tick.0) (result l a.tick.0) l (all_long _ _ _ _ b.long n.long p.long w.long) (dec_block c.in-Some.block.now) (ap dec_block b.same) _ (c.block_ok.ensures ∙ ap sound? b.same) c.if-not-block_ok.false 0 refl refl 0 (none_found f a.tick.0 (fine _ tt tt (sym c.try_waits.ensures.value ∙ c.in_ok-try_waits.was)) (sym c.out_of_handles.ensures ∙ c.if-out_of_handles.false)) refl)
+    ∙ change-0 _ (λ k. 0) (work a.tick.0) (result l a.tick.0) l (all_long _ _ _ _ b.long n.long p.long w.long) (dec_block c.in-Some.block.now) (ap dec_block b.same) _ (c.block_ok.ensures ∙ ap sound? b.same) c.if-not-block_ok.false 0 refl refl 0 (none_found f a.tick.0 (fits-as _ tt tt (sym c.try_waits.ensures.value ∙ c.in_ok-try_waits.was)) (sym c.out_of_handles.ensures ∙ c.if-out_of_handles.false)) refl)

@@ -6,11 +6,6 @@ use Rattle.block.specs.Block.{dec_block}
 use Rattle.take.proofs.Taken.{over-is, taken}
 use Rattle.take.proofs.take.Goals as goal
 
-pub returns-then-over_after-clause-value : goal.returns-then-over_after-clause-value
-returns-then-over_after-clause-value c =
-    let e = over-is (dec_block c.args.block.now).objects c.args.o.0 c.slot_at-x.result c.slot_at-x.ensures c.over_after.result c.over_after.ensures in
-    ap (λ (v : Bool). unless_found (pick v 8 0) tt) (sym c.if-over_after.true ∙ e)
-
 pub returns : goal.returns
 returns c =
     let b = c.args.block.now in

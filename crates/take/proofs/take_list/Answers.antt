@@ -1,12 +1,10 @@
-use Rattle.std.proofs.Common.{sym, ap, subst, ◌∙◌, drop}
+use Rattle.std.proofs.Common.{sym, subst, ◌∙◌, drop}
 use Rattle.std.proofs.lemmas.Result.{err_from_is_err_and}
-use Rattle.std.specs.Prelude.{Bool, List, ℕ, ◌+◌}
-use Rattle.laws.specs.Logic.{pick}
-use Rattle.types.specs.Refusal.{unless_found}
+use Rattle.std.specs.Prelude.{List, ℕ, ◌+◌}
 use Rattle.block.specs.Block.{dec_block}
 use Rattle.sound.specs.View.{ids}
-use Rattle.release.proofs.Lists.{list-next, list-all}
-use Rattle.take.proofs.Taken.{Taking, refused-as, take_more, take-over, take-end, take-none-over}
+use Rattle.release.proofs.Lists.{list-next}
+use Rattle.take.proofs.Taken.{Taking, refused-as, take_more, take-over}
 use Rattle.take.proofs.take_list.Goals as goal
 
 pub returns-in_err-take-clause-value : goal.returns-in_err-take-clause-value
@@ -28,16 +26,3 @@ loop-o-preserved c =
     let e = list-next a.list.now l.o-index c.loop-o-test.true in
     let g = subst (λ (z : List ℕ). Taking k (ids a.list.now) a.w l.block z) e l.invariant in
     take_more k (ids a.list.now) a.w l.block c.take.new.block _ (drop (l.o-index + 1) (ids a.list.now)) g (c.take.ensures.block_after c.in_ok-take.was) c.take.ensures.block_after_2
-
-pub returns : goal.returns
-returns c =
-    let l = c.loop-o in
-    let a = c.args in
-    let k = dec_block a.block.now in
-    let os = ids a.list.now in
-    let g = subst (λ (z : List ℕ). Taking k os a.w l.block z) (list-all a.list.now l.o-index c.loop-o-test.false) l.invariant in
-    record {
-      value = ap (λ (v : Bool). unless_found (pick v 8 0) tt) (sym (take-none-over k os a.w l.block g));
-      block_after = λ _. take-end k os a.w l.block g;
-      block_after_2 = g.sound;
-    }

@@ -17,7 +17,7 @@ returns-in_err-o c = let a = c.args in
 pub returns-then-o-eq0 : goal.returns-then-o-eq0
 returns-then-o-eq0 c = let a = c.args in
     let b = a.block.now in
-    let w' = not_known b c.requires.block_value a.h.0 goes_on _ c.resolve.result c.resolve.ensures.opens _ c.in_ok-o.was (handle_finding (dec_block b) a.h.0 goes_on (λ q o. refl)) c.if-o-eq0.true _ c.answers.ensures in
+    let w' = not_known b c.requires.block_value a.h.0 goes_on _ c.resolve.result c.resolve.ensures.opens _ c.in_ok-o.was (handle_finding (dec_block b) a.h.0 goes_on (λ q o. refl)) c.if-o-eq0.true _ c.from.ensures in
     record { value = w'.0; block_after = w'.1 }
 
 pub returns : goal.returns

@@ -12,4 +12,4 @@ returns-in_err-room c =
 pub returns : goal.returns
 returns c =
     let w' = answers-same c.args.block.now 18 c.requires.block_value _ (rw c.out_of_handles.ensures at (sym c.room.ensures ∙ c.in_ok-room.was)) in
-    rw c.answers.ensures record { value = w'.0; block_value_2 = w'.1 }
+    rw c.from.ensures record { value = w'.0; block_value_2 = w'.1 }

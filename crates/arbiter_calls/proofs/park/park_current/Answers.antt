@@ -29,7 +29,7 @@ returns-then-o-eq0 c = let a = c.args in
     let b = a.block.now in
     let z = unless-ok _ tt _ (sym c.found_parking.ensures ∙ c.in_ok-found_parking.was) in
     let q = parked_opens b c.requires.block_value a.h.0 a.a a.over z in
-    let w' = not_known b c.requires.block_value a.h.0 (parks a.a a.time a.tick.0 a.over a.word) _ c.resolve.result c.resolve.ensures.opens _ c.in_ok-o.was (parked-found b c.requires.block_value a.h.0 a.a a.time a.tick.0 a.over a.word ∙ z ∙ sym q) c.if-o-eq0.true _ c.answers.ensures in
+    let w' = not_known b c.requires.block_value a.h.0 (parks a.a a.time a.tick.0 a.over a.word) _ c.resolve.result c.resolve.ensures.opens _ c.in_ok-o.was (parked-found b c.requires.block_value a.h.0 a.a a.time a.tick.0 a.over a.word ∙ z ∙ sym q) c.if-o-eq0.true _ c.from.ensures in
     record { value = w'.0; block_after = w'.1 }
 
 pub returns : goal.returns

@@ -1,4 +1,4 @@
-use mathlib.Core.Path.{refl, sym, ap, subst, ◌∙◌}
+use mathlib.Core.Path.{sym, ap, subst, ◌∙◌}
 use Prim.Native.Nat.{◌+◌, ◌≤◌, ◌<◌}
 use native.Mathlib.Omega.{arith}
 use lib.ListN.{length, drop}
@@ -15,9 +15,6 @@ use Rattle.kernel.proofs.Steps.{wake-step, wake-end}
 use Rattle.rows.specs.Sizes.{size-threads}
 use Rattle.due.proofs.Looked.{thread-is}
 use Rattle.asked.proofs.event.look_at_threads.Goals as goal
-
-pub loop-i-init : goal.loop-i-init
-loop-i-init c = record { wake = refl; marks = refl; short = tt }
 
 pub loop-i-preserved : goal.loop-i-preserved
 loop-i-preserved c =

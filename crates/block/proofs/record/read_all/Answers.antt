@@ -8,7 +8,7 @@ use Rattle.block.proofs.record.read_all.Goals as goal
 
 pub loop-i-init : goal.loop-i-init
 unfolding dec_all
-loop-i-init g c = (length-replicate g.row.N c.blank-l.result, refl)
+loop-i-init g c = (length-replicate g.row.N c.default-l.result, refl)
 
 pub loop-i-preserved : goal.loop-i-preserved
 loop-i-preserved g c =

@@ -1,4 +1,3 @@
-use mathlib.Core.Path.{◌≡◌}
 use Prim.Native.Nat.{◌<◌}
 use native.Mathlib.Omega.{arith}
 use lib.ListN.{length}
@@ -17,9 +16,3 @@ loop-i-preserved c =
     let l = c.loop-i in
     let h : l.i < length l.l = omega arith in
     (search rules, cc (fill_more num 4 l.i c.args.window.now c.args.at l.l h l.invariant.1))
-
-pub returns : goal.returns
-returns c =
-    let l = c.loop-i in
-    let e : l.i ≡ c.args.n = omega arith in
-    rw e at l.invariant.1

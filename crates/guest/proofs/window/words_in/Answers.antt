@@ -24,6 +24,3 @@ words_at-requires c =
     let p = c.requires in
     let h = room a.base (length a.window.now) a.number a.r p.r_value_2 (λ z. c.if-n-eq0.false (p.n_value ∙ z)) in
     let g : a.r.r1 + 4 * a.n ≤ a.base + length a.window.now = rw p.n_value h.1 in record { n_le_wait_list = rw p.n_value (few a.number a.r p.r_value); n_in_bounds = omega (arith, h.0, g) }
-
-pub returns : goal.returns
-returns c = rw (← c.requires.n_value) c.words_at.ensures

@@ -1,5 +1,5 @@
-use mathlib.Core.Path.{◌≡◌, refl, ap, sym, subst, ◌∙◌}
-use Prim.Native.Nat.{ℕ, ◌<◌}
+use mathlib.Core.Path.{◌≡◌, refl, ap, sym, ◌∙◌}
+use Prim.Native.Nat.{ℕ}
 use borrow.Author.Tests.{eq-eqb, ne_eqb}
 use Rattle.std.proofs.lemmas.Result.{err_from_is_err_and}
 use Rattle.types.specs.Refusal.{found_in}
@@ -45,19 +45,8 @@ returns-then-o-eq0 c =
     let k = opened-state b c.requires.block_value c.args.r.r1 _ _ p z in
     let o = sym (ap object_in c.in_ok-o.was) ∙ p.object z in
     let u : ◌≡◌ {A = Served} (answers 16 (dec_block c.resolve.new.block)) (duplicate_handle (dec_block b) c.args.r) = ap (answers 16) k ∙ rw (eq-eqb _ 0 (sym o ∙ c.if-o-eq0.true)) refl in
-    let w = accepted-call b c.args.r.r1 _ c.resolve.result p (duplicate_handle (dec_block b) c.args.r) (duplicate_finding b c.args.r m.0 m.1) z _ u _ c.answers.ensures _ (holds _ c.resolve.ensures.block_after) in
+    let w = accepted-call b c.args.r.r1 _ c.resolve.result p (duplicate_handle (dec_block b) c.args.r) (duplicate_finding b c.args.r m.0 m.1) z _ u _ c.from.ensures _ (holds _ c.resolve.ensures.block_after) in
     record { value = w.0; block_after = w.1 }
-
-pub put_duplicate-requires : goal.put_duplicate-requires
-put_duplicate-requires c =
-    let b = c.args.block.now in
-    let m = has_room b _ _ c.get32-count.ensures c.get32-next.ensures _ c.room.ensures c.in_default.not-Err in
-    let k = opened-state b c.requires.block_value c.args.r.r1 _ _ c.resolve.ensures.opens (ap found_in c.in_ok-o.was) in
-    record {
-      block_value = c.resolve.ensures.block_after;
-      block_bound = subst (λ (q : Kernel). q.handles.count < 256) (sym k) m.0;
-      block_bound_2 = subst (λ (q : Kernel). q.handles.next.0 < 0xFFFF8000) (sym k) m.1;
-    }
 
 pub returns : goal.returns
 unfolding duplicate_handle create

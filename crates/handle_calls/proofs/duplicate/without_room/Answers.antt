@@ -35,4 +35,4 @@ returns c =
     let n = subst (Names (dec_block a.block.now) a.r.r1) (sym c.names.ensures ∙ c.if-names.false) (names-is a.block.now c.requires.block_value a.r.r1) in
     let f = ap (found_of false) (sym c.out_of_handles.ensures) ∙ unless-ok _ tt _ (sym c.room.ensures ∙ c.in_ok-room.was) in
     let w = not_known a.block.now c.requires.block_value a.r (sym c.no_room.ensures ∙ c.if-no_room.false) n f in
-    rw c.answers.ensures record { value = w.0; block_value_2 = w.1 }
+    rw c.from.ensures record { value = w.0; block_value_2 = w.1 }

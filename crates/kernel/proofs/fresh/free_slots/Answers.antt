@@ -1,15 +1,9 @@
 use borrow.Author.Rules.{rules}
-use Rattle.kernel.specs.Fresh.{free_slot, free_slots}
-use Rattle.kernel.proofs.Rows.{row_step, row_done}
+use Rattle.kernel.specs.Fresh.{free_slot}
+use Rattle.kernel.proofs.Rows.{row_step}
 use Rattle.kernel.proofs.fresh.free_slots.Goals as goal
 
 pub loop-i-preserved : goal.loop-i-preserved
 loop-i-preserved c =
     let l = c.loop-i in
     record { long = search rules; row = rw (c.free_slot.ensures, c.next_number.ensures) (row_step free_slot 128 l.l l.i c.loop-i-test.true l.invariant.long l.invariant.row) }
-
-pub returns : goal.returns
-unfolding free_slots
-returns c =
-    let l = c.loop-i in
-    row_done free_slot 128 l.l l.i _ c.loop-i-test.false l.invariant.long l.invariant.row

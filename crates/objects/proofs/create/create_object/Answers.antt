@@ -1,14 +1,13 @@
 use Rattle.std.proofs.Common.{rules, ap, sym, ◌∙◌}
 use Rattle.std.proofs.lemmas.Result.{err_from_is_err_and}
-use Rattle.std.specs.Prelude.{◌≡◌, ℕ, Ok, eqb, leb}
-use borrow.Author.Tests.{leb-false}
-use Rattle.laws.specs.Logic.{or-false, ◌or◌}
+use Rattle.std.specs.Prelude.{◌≡◌, Ok, eqb, leb}
+use Rattle.laws.specs.Logic.{◌or◌}
 use Rattle.codec.specs.Layout.{dec_as}
-use Rattle.types.specs.Refusal.{found_in, unless_found, unless-ok, refusal-some}
+use Rattle.types.specs.Refusal.{unless-ok, refusal-some}
 use Rattle.block.specs.Block.{dec_block}
 use Rattle.svc.specs.Call.{create_object}
 use Rattle.outcome.specs.Outcome.{given, outcome-0, outcome-found, left-0, left-found}
-use Rattle.outcome.specs.Findings.{found_of, none_found, room-refused}
+use Rattle.outcome.specs.Findings.{found_of, room-refused}
 use Rattle.objects.proofs.Found.{created-finding}
 use Rattle.objects.proofs.create.create_object.Goals as goal
 
@@ -20,14 +19,6 @@ returns-in_err-room c =
     let e = (λ i. found_of (f i) (leb 0xFFFF8000 c.get32-next.result)) ∙ (λ i. found_of (eqb (c.get32-free.ensures i) 0 or leb 256 (c.get32-count.ensures i)) (leb 0xFFFF8000 (c.get32-next.ensures i))) in
     let g = created-finding c.args.block.now c.args.v ∙ sym e ∙ room-refused _ _ tt _ (sym c.room.ensures ∙ c.in_err-room.was) in
     rw (p.1, p.2) record { value = sym (outcome-found _ _ g); block_after = sym (left-found _ _ (λ z. refusal-some _ (sym g ∙ z))) }
-
-pub put_created-requires : goal.put_created-requires
-unfolding dec_block dec_as ◌or◌
-put_created-requires c =
-    let f : c.if-free-eq0.room ≡ (eqb c.get32-free.result 0 or leb 256 c.get32-count.result) = search rules in
-    let e = (λ i. found_of (f i) (leb 0xFFFF8000 c.get32-next.result)) ∙ (λ i. found_of (eqb (c.get32-free.ensures i) 0 or leb 256 (c.get32-count.ensures i)) (leb 0xFFFF8000 (c.get32-next.ensures i))) in
-    let n = none_found _ _ (sym e ∙ unless-ok _ tt _ (sym c.room.ensures ∙ c.in_ok-room.was)) in
-    record { block_value = c.requires.block_value; block_bound = leb-false 256 _ (or-false _ _ n.0).1; block_bound_2 = leb-false 0xFFFF8000 _ n.1 }
 
 pub returns : goal.returns
 unfolding dec_block dec_as create_object ◌or◌

@@ -1,6 +1,5 @@
 use Rattle.std.specs.Prelude.{None}
-use mathlib.Core.Path.{refl, ap}
-use Rattle.units.specs.declared.ObjectId.{ObjectId}
+use mathlib.Core.Path.{refl}
 use Rattle.block.specs.Block.{dec_block}
 use Rattle.object.specs.Kept.{of_current}
 use Rattle.objects.proofs.Opened.{opens_same}
@@ -10,6 +9,3 @@ pub returns-in-None : goal.returns-in-None
 returns-in-None c = let b = c.args.block.now in
     let s = c.requires.block_value in
     rw c.in-None.is (opens_same b s (of_current (dec_block b).objects None) c.there.result _ refl refl c.there.ensures)
-
-pub returns-in-Some : goal.returns-in-Some
-returns-in-Some c = rw c.in-Some.is c.open_thread.ensures

@@ -1,7 +1,6 @@
-use mathlib.Core.Path.{refl, ap, sym, subst, ◌∙◌}
+use mathlib.Core.Path.{ap, sym, subst, ◌∙◌}
 use Prim.Native.Nat.{ℕ}
 use Rattle.codec.specs.Layout.{dec_as}
-use Rattle.units.specs.declared.ObjectId.{ObjectId}
 use Rattle.types.specs.declared.object.ObjectStore.{ObjectStore}
 use Rattle.types.specs.declared.object.KObject.TheVariants.{Process}
 use Rattle.block.specs.Block.{dec_block}

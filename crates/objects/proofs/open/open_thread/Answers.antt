@@ -1,11 +1,10 @@
 use Rattle.std.specs.Prelude.{Some}
-use mathlib.Core.Path.{refl, ap, sym, subst, ◌∙◌}
+use mathlib.Core.Path.{ap, sym, subst, ◌∙◌}
 use Prim.Native.Nat.{ℕ}
 use lib.Dec.{ltb}
 use Rattle.laws.specs.Logic.{pick}
 use Rattle.sound.specs.Objects.{kept_at}
 use Rattle.codec.specs.Layout.{dec_as}
-use Rattle.units.specs.declared.ObjectId.{ObjectId}
 use Rattle.types.specs.declared.object.ObjectStore.{ObjectStore}
 use Rattle.types.specs.declared.object.KObject.TheVariants.{Thread}
 use Rattle.block.specs.Block.{dec_block}

@@ -8,5 +8,6 @@ pub returns : goal.returns
 returns c = let b = c.args.block.now in
     let s = c.requires.block_value in
     let h = c.get_head-head in
-    rw (c.put_head.ensures, c.put_slot.ensures)
-    (inserted b _ (holds b s) c.args.v c.args.process.0 h.result (h.ensures ∙ sound-head b s) c.slot_at-old.result c.slot_at-old.ensures c.next_of-next.result c.next_of-next.ensures)
+    let m = c.insert-made.ensures in
+    rw (c.put_head.ensures, m.block_after, m.value)
+    (inserted b (holds b s) c.args.v c.args.process.0 h.result (h.ensures ∙ sound-head b s))

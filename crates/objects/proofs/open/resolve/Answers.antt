@@ -1,6 +1,5 @@
-use mathlib.Core.Path.{refl, ap, ◌∙◌}
+use mathlib.Core.Path.{refl}
 use borrow.Author.Tests.{eq-eqb, ne_eqb}
-use Rattle.units.specs.declared.ObjectId.{ObjectId}
 use Rattle.block.specs.Block.{dec_block}
 use Rattle.object.specs.Kept.{resolve}
 use Rattle.svc.specs.Call.{resolved}

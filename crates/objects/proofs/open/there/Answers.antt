@@ -1,10 +1,8 @@
 use Rattle.std.proofs.Common.{ap, sym, ◌∙◌}
 use Rattle.std.proofs.lemmas.Result.{err_from_is_err_and}
-use Rattle.std.specs.Prelude.{◌≡◌, false, ℕ}
+use Rattle.std.specs.Prelude.{false, ℕ}
 use Rattle.types.specs.Refusal.{unless_found, unless-ok, unless-err, unless-none}
 use Rattle.outcome.specs.Findings.{found_of, same-finding}
-use Rattle.block.specs.Block.{dec_block}
-use Rattle.lent.specs.Operations.{finding}
 use Rattle.objects.proofs.open.there.Goals as goal
 
 -- what was asked is what is found of the state as it is

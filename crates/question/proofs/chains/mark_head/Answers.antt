@@ -1,3 +1,4 @@
+use mathlib.Core.Bool.{true}
 use mathlib.Core.Path.{ap, sym, ◌∙◌}
 use Rattle.laws.specs.Logic.{and-true}
 use Rattle.laws.specs.Walk.{walk, walk-nil}
@@ -16,7 +17,6 @@ returns-then-head-eq0 c =
       broken = λ w. cc;
       lone = λ b w. lone_nil x a.m.now 64 a.head e;
       m_after = λ b w. (mark_nil x a.m.now 64 a.head e).1;
-      still = λ w. cc;
       pairs = λ w ad. ap (chain? a.r.now.threads ad a.n) (walk-nil x 64 a.head e);
     }
 
@@ -27,7 +27,6 @@ returns-in-Broken c =
       broken = λ w. outcome_open _ _ (sym k.value ∙ c.in-Broken.is);
       lone = λ b w. cc;
       m_after = λ b w. cc;
-      still = λ w. cc;
       pairs = λ w ad. cc;
     }
 
@@ -38,7 +37,6 @@ returns-in-Shared c =
       broken = λ w. cc;
       lone = λ b w. outcome-ends _ _ (λ z. let e = sym c.in-Shared.is ∙ (k.value ∙ z) in cc);
       m_after = λ b w. k.m_after (λ z. let e = sym c.in-Shared.is ∙ z in cc);
-      still = λ w. cc;
       pairs = λ w ad. cc;
     }
 
@@ -47,11 +45,10 @@ returns-in-Apart c =
     let a = c.args in
     let x = a.r.now.nexts in
     let k = c.mark_apart.ensures in
-    let e = and-true _ _ (outcome-apart _ _ (sym k.value ∙ c.in-Apart.is)) in
+    let e = (and-true true _ (outcome-apart _ _ (sym k.value ∙ c.in-Apart.is))).1 in
     record {
       broken = λ w. cc;
       lone = λ b w. outcome-ends _ _ (λ z. let e = sym c.in-Apart.is ∙ (k.value ∙ z) in cc);
       m_after = λ b w. k.m_after (λ z. let e = sym c.in-Apart.is ∙ z in cc);
-      still = λ w. e.0;
-      pairs = λ w ad. apart-chain a.n a.r.now.threads ad a.mark (walk x 64 a.head) a.seen.now c.told-seen e.1;
+      pairs = λ w ad. apart-chain a.n a.r.now.threads ad a.mark (walk x 64 a.head) a.seen.now c.told-seen e;
     }

@@ -13,7 +13,7 @@ use Rattle.block.specs.Tables.{entries_in, row_at}
 use Rattle.tally.specs.Lists.{name_of}
 use Rattle.sound.specs.Handles.{no_entries?}
 use Rattle.question.specs.Linear.{entry?}
-use Rattle.question.proofs.Steps.{rising_step, rising-end, rising-far, entry-names, entry-object, count-more, none-tally}
+use Rattle.question.proofs.Steps.{rising_step, rising-end, rising-far, entry-names, count-more, none-tally}
 use Rattle.question.proofs.Entries.{rows_drop, none-zero}
 use Rattle.question.proofs.handles.handles_ok.Goals as goal
 
@@ -41,12 +41,6 @@ returns-then-not-entry_ok-clause-value c =
     let l = c.loop-i in
     let t = c.entry_at-e.ensures ∙ row_at dec_entry 8 none 256 b 10368 l.i (omega arith) in
     sym (rising_step es a.count l.i l.low a.next.0 none (omega arith) (omega arith) ∙ and_no _ _ (ap (λ (x : HandleEntry). entry? l.low x) (sym t) ∙ sym c.entry_ok.ensures ∙ c.if-not-entry_ok.true)) ∙ l.invariant.handles
-
-pub count_at-requires : goal.count_at-requires
-count_at-requires c =
-    let l = c.loop-i in
-    let o = c.entry_at-e.result.object.0 in
-    record { o_bound = entry-object l.low _ (sym c.entry_ok.ensures ∙ c.if-not-entry_ok.false); o_bound_2 = omega (arith, l.invariant.low_counts o) }
 
 pub loop-i-preserved : goal.loop-i-preserved
 loop-i-preserved c =

@@ -1,8 +1,8 @@
 use mathlib.Core.Path.{◌≡◌, sym, ◌∙◌}
-use Prim.Native.Nat.{◌≤◌, ◌<◌}
+use Prim.Native.Nat.{◌<◌}
 use native.Mathlib.Omega.{arith}
 use lib.ListN.{length}
-use Rattle.laws.specs.Tally.{tally-more, tally-none}
+use Rattle.laws.specs.Tally.{tally-more}
 use Rattle.block.specs.Table.{dec_id}
 use Rattle.block.specs.Tables.{kept_in, row_at}
 use Rattle.codec.proofs.Fit.{length-dec_all}
@@ -18,10 +18,3 @@ loop-i-preserved c =
     let h : l.i < length (kept_in b) = omega arith in
     let t = c.kept_at.ensures ∙ row_at dec_id 4 (record { 0 = 0 }) 32 b 13184 l.i (omega arith) in
     rw (c.bump_at.ensures, c.name.ensures, t) (sym (tally-more 129 (λ (o : ObjectId). name_of o.0) (kept_in b) l.i (record { 0 = 0 }) l.c h) ∙ l.invariant)
-
-pub returns : goal.returns
-returns c =
-    let l = c.loop-i in
-    let b = c.args.b.now in
-    let e : length (kept_in b) ≤ l.i = omega (arith, length-dec_all dec_id 4 32 b 13184) in
-    sym (tally-none 129 (λ (o : ObjectId). name_of o.0) (kept_in b) l.c l.i e) ∙ l.invariant

@@ -1,8 +1,8 @@
 use mathlib.Core.Path.{◌≡◌, sym, ◌∙◌}
-use Prim.Native.Nat.{◌≤◌, ◌<◌}
+use Prim.Native.Nat.{◌<◌}
 use native.Mathlib.Omega.{arith}
 use lib.ListN.{length}
-use Rattle.laws.specs.Tally.{tally_all-more, tally_all-none}
+use Rattle.laws.specs.Tally.{tally_all-more}
 use Rattle.block.specs.Thread.{dec_thread}
 use Rattle.block.specs.Tables.{threads_in, row_at}
 use Rattle.codec.proofs.Fit.{length-dec_all}
@@ -19,10 +19,3 @@ loop-i-preserved c =
     let h : l.i < length (threads_in b) = omega arith in
     let t = c.thread_at.ensures ∙ row_at dec_thread 160 no_thread 32 b 128 l.i (omega arith) in
     rw (c.tally_names.ensures.c_after, t) (sym (tally_all-more 129 (λ (x : Thread). names x.wait_objects) (threads_in b) l.i no_thread l.c h) ∙ l.invariant)
-
-pub returns : goal.returns
-returns c =
-    let l = c.loop-i in
-    let b = c.args.b.now in
-    let e : length (threads_in b) ≤ l.i = omega (arith, length-dec_all dec_thread 160 32 b 128) in
-    sym (tally_all-none 129 (λ (x : Thread). names x.wait_objects) (threads_in b) l.c l.i e) ∙ l.invariant

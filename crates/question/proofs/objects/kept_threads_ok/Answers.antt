@@ -2,11 +2,8 @@ use mathlib.Core.Path.{sym, ◌∙◌}
 use native.Mathlib.Omega.{arith}
 use Rattle.block.specs.Table.{dec_id}
 use Rattle.block.specs.Tables.{kept_in, row_at}
-use Rattle.question.specs.ObjectSteps.{kept-start, kept-next, kept-fails}
+use Rattle.question.specs.ObjectSteps.{kept-fails}
 use Rattle.question.proofs.objects.kept_threads_ok.Goals as goal
-
-pub loop-t-init : goal.loop-t-init
-loop-t-init c = kept-start _ _ _
 
 pub returns-then-not-kept_thread : goal.returns-then-not-kept_thread
 returns-then-not-kept_thread c =
@@ -15,11 +12,3 @@ returns-then-not-kept_thread c =
     let k = c.kept_at-k.ensures ∙ row_at dec_id 4 (record { 0 = 0 }) 32 b 13184 t (omega arith) in
     let e = rw (c.slot_index-i.ensures.value, k) at c.kept_thread.ensures in
     sym (kept-fails _ _ (kept_in b) t 32 (omega arith) (sym e ∙ c.if-not-kept_thread.true))
-
-pub loop-t-preserved : goal.loop-t-preserved
-loop-t-preserved c =
-    let t = c.loop-t.t in
-    let b = c.args.b.now in
-    let k = c.kept_at-k.ensures ∙ row_at dec_id 4 (record { 0 = 0 }) 32 b 13184 t (omega arith) in
-    let e = rw (c.slot_index-i.ensures.value, k) at c.kept_thread.ensures in
-    kept-next _ _ (kept_in b) t c.loop-t.invariant (sym e ∙ c.if-not-kept_thread.false)

@@ -1,4 +1,4 @@
-use mathlib.Core.Path.{◌≡◌, refl, ◌∙◌}
+use mathlib.Core.Path.{◌≡◌, ◌∙◌}
 use native.Mathlib.Omega.{arith}
 use lib.ListN.{length, length-set}
 use Rattle.codec.proofs.Fit.{length-dec_all}
@@ -7,9 +7,6 @@ use Rattle.block.specs.Table.{dec_waiter}
 use Rattle.block.specs.Tables.{waiters_in, row_at}
 use Rattle.tally.specs.Columns.{no_waiter, map_more, map-done}
 use Rattle.question.proofs.records.read_records.Goals as goal
-
-pub loop-i-init : goal.loop-i-init
-loop-i-init c = record { made = (omega arith, (omega arith, omega arith)); nexts = refl; threads = refl; addresses = refl }
 
 pub loop-i-preserved : goal.loop-i-preserved
 loop-i-preserved c =

@@ -1,9 +1,8 @@
-use mathlib.Core.Path.{◌≡◌, sym, ap, subst, ◌∙◌}
+use mathlib.Core.Path.{sym, ap, subst, ◌∙◌}
 use Prim.Native.Nat.{ℕ, ◌<◌}
 use native.Mathlib.Omega.{arith}
 use Rattle.types.specs.declared.object.Slot.{Slot}
 use Rattle.types.specs.Object.{head_of}
-use Rattle.block.specs.Block.{dec_block}
 use Rattle.object.specs.Slots.{with_object}
 use Rattle.object.specs.Waiters.{with_head}
 use Rattle.object.specs.Ends.{links}
@@ -19,7 +18,7 @@ loop-i-init c =
     let b = c.args.block.now in
     let ws = c.read_all-ws.result in
     let h = c.get_head-head.ensures ∙ encoded-head b c.requires.encoded in
-    subst (λ (z : ℕ). DropTo b c.args.t 0 b ws z) (sym (λ i. (h i).c.1)) (drop-start b c.args.t c.told-block c.requires.encoded ws (c.read_all-ws.ensures ∙ waiters_are b))
+    subst (λ (z : ℕ). DropTo b c.args.t 0 b ws z) (sym (λ i. (h i).free_waiter)) (drop-start b c.args.t c.told-block c.requires.encoded ws (c.read_all-ws.ensures ∙ waiters_are b))
 
 pub loop-i-preserved : goal.loop-i-preserved
 loop-i-preserved c =

@@ -30,7 +30,7 @@ returns-in_default c =
     let y = opened-content b c.requires.block_value c.args.r.r0 _ _ p _ c.in_ok-o.was c.slot_at-x.result c.slot_at-x.ensures in
     let u : ◌≡◌ {A = Served} (answers 16 (dec_block c.resolve.new.block)) (release_mutex (dec_block b) c.args.r) =
     sym (not_mutex c.slot_at-x.result.object _ c.in_ok-o.o.0 c.in_default.not-Mutex) ∙ (λ i. release_mutex_as (y i) (k i) (o i)) in
-    let w = accepted-call b c.args.r.r0 _ c.resolve.result p (release_mutex (dec_block b) c.args.r) (release_mutex-finding (dec_block b) c.args.r) (ap found_in c.in_ok-o.was) _ u _ c.answers.ensures _ (holds _ c.resolve.ensures.block_after) in
+    let w = accepted-call b c.args.r.r0 _ c.resolve.result p (release_mutex (dec_block b) c.args.r) (release_mutex-finding (dec_block b) c.args.r) (ap found_in c.in_ok-o.was) _ u _ c.from.ensures _ (holds _ c.resolve.ensures.block_after) in
     record { value = w.0; block_after = w.1 }
 
 pub returns : goal.returns

@@ -41,7 +41,7 @@ returns-in_default c =
     sym (not_semaphore c.slot_at-x.result.object _ c.in_ok-o.o.0 c.args.r.r2 c.in_default.not-Semaphore) ∙ (λ i. release_semaphore_as (y i) (k i) (o i) c.args.r.r2) in
     let f = ap (λ (v : Served). finding v.kernel) (sym u) ∙ opened-nothing b c.requires.block_value c.args.r.r1 _ _ p _ c.in_ok-o.was in
     record {
-      value = ap Ok (c.answers.ensures ∙ ap accepted u) ∙ sym (outcome-0 _ f);
+      value = ap Ok (c.from.ensures ∙ ap accepted u) ∙ sym (outcome-0 _ f);
       block_after = (holds _ c.resolve.ensures.block_after).same ∙ ap (λ (v : Served). enc_block v.kernel) u ∙ sym (left-0 _ b f);
     }
 

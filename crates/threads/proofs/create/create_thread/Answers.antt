@@ -28,7 +28,12 @@ put_handle-requires c = let b = c.args.block.now in
     let z = unless-ok _ tt _ (sym c.room_to_make.ensures ∙ c.in_ok-room_to_make.was) in
     let g = c.put_created.ensures in
     let i = c.ended_thread-id.ensures in
-    let m = room-made b s r w1 w3 w4 z _ g in record { block_value = sound-made b s r w1 w3 w4 z _ g; id_bound = rw i (place b s r w1 w3 w4 z); id_value = ap (kept_at (dec_block c.put_created.new.block).objects) i ∙ kept-made b s r w1 w3 w4 z _ g; free_nonzero = m.0; block_bound = m.1; block_bound_2 = m.2 }
+    record {
+      block_value = sound-made b s r w1 w3 w4 z _ g;
+      id_bound = rw i (place b s r w1 w3 w4 z);
+      id_value = ap (kept_at (dec_block c.put_created.new.block).objects) i ∙ kept-made b s r w1 w3 w4 z _ g;
+      free_nonzero = room-made b s r w1 w3 w4 z _ g;
+    }
 
 pub returns : goal.returns
 unfolding dec_block dec_as

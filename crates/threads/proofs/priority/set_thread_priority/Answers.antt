@@ -11,7 +11,8 @@ use Rattle.sound.specs.View.{thread_at}
 use Rattle.thread.specs.Thread.{with_priority}
 use Rattle.thread.specs.Threads.{set_priority, least}
 use Rattle.svc.specs.Threads.{set_thread_priority}
-use Rattle.threads.proofs.Found.{priority-finding, put-as, least-min}
+use Rattle.thread.proofs.Steps.{min-least}
+use Rattle.threads.proofs.Found.{priority-finding, put-as}
 use Rattle.threads.proofs.priority.set_thread_priority.Goals as goal
 
 pub returns-in_err-room : goal.returns-in_err-room
@@ -27,7 +28,7 @@ unfolding set_thread_priority
 returns-in_default c =
     let b = c.args.block.now in
     let f = priority-finding b None c.args.r.r1 ∙ ap (found_of false) (sym c.out_of_handles.ensures) ∙ unless-ok _ tt _ (sym c.room.ensures ∙ c.in_ok-room.was) in
-    rw (sym c.resolve_thread.ensures ∙ c.in_default.is) record { value = ap Ok c.answers.ensures ∙ sym (outcome-0 _ f); block_after = (holds b c.requires.block_value).same ∙ sym (left-0 _ b f) }
+    rw (sym c.resolve_thread.ensures ∙ c.in_default.is) record { value = ap Ok c.from.ensures ∙ sym (outcome-0 _ f); block_after = (holds b c.requires.block_value).same ∙ sym (left-0 _ b f) }
 
 pub returns : goal.returns
 unfolding set_thread_priority set_priority
@@ -36,5 +37,5 @@ returns c =
     let f = priority-finding b (Some c.in-Some.t) c.args.r.r1 ∙ ap (found_of false) (sym c.out_of_handles.ensures) ∙ unless-ok _ tt _ (sym c.room.ensures ∙ c.in_ok-room.was) in
     rw (sym c.resolve_thread.ensures ∙ c.in-Some.is) record {
       value = ap Ok c.done.ensures ∙ sym (outcome-0 _ f);
-      block_after = c.change.ensures.1.1 ∙ put-as b c.in-Some.t _ (with_priority (thread_at (dec_block b).threads c.in-Some.t) (least c.args.r.r1 63)) (λ l. rw (← least-min c.args.r.r1 63) (search (rules, c.change.ensures.1.0 l))) ∙ (put-thread (holds b c.requires.block_value) _ _).same ∙ sym (left-0 _ b f);
+      block_after = c.change.ensures.1.1 ∙ put-as b c.in-Some.t _ (with_priority (thread_at (dec_block b).threads c.in-Some.t) (least c.args.r.r1 63)) (λ l. rw (← min-least c.args.r.r1 63) (search (rules, c.change.ensures.1.0 l))) ∙ (put-thread (holds b c.requires.block_value) _ _).same ∙ sym (left-0 _ b f);
     }

@@ -18,4 +18,4 @@ pub returns : goal.returns
 unfolding sleep_thread
 returns c =
     let f = sleep-finding c.args.block.now c.args.r c.args.tick.0 ∙ ap (found_of false) (sym c.out_of_handles.ensures) ∙ unless-ok _ tt _ (sym c.room.ensures ∙ c.in_ok-room.was) in
-    record { value = ap Ok c.done.ensures ∙ sym (outcome-0 _ f); block_after = rw (c.sleep_ticks-time.ensures, c.pair.ensures) at c.put_slept.ensures.same ∙ sym (left-0 _ _ f) }
+    record { value = ap Ok c.done.ensures ∙ sym (outcome-0 _ f); block_after = rw (c.sleep_ticks-time.ensures, c.from_words.ensures) at c.put_slept.ensures.same ∙ sym (left-0 _ _ f) }

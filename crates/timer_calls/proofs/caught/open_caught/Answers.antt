@@ -7,7 +7,7 @@ use Rattle.block.specs.Block.{dec_block}
 use Rattle.svc.specs.Timers.{caught_up}
 use Rattle.lent.specs.Operations.{out_of_handles?}
 use Rattle.outcome.specs.Findings.{found_of, room-none, room-refused}
-use Rattle.timer_calls.proofs.Opened.{caught-fits, opens_refused, opens_caught, state-caught}
+use Rattle.timer_calls.proofs.Opened.{opens_refused, opens_caught, state-caught}
 use Rattle.timer_calls.proofs.caught.open_caught.Goals as goal
 
 pub returns-in_err-found_before : goal.returns-in_err-found_before
@@ -18,14 +18,6 @@ returns-in_err-found_before c =
     let p = err_from_is_err_and c.from_residual.result c.from_residual.ensures.1 in
     let f = ap (λ (f : Bool). found_of f v) (sym c.no_room.ensures) ∙ room-refused _ v tt _ (sym c.found_before.ensures ∙ c.in_err-found_before.was) in
     rw (p.1, p.2) record { opens = opens_refused b c.args.h.0 tick _ f; block_after = c.requires.block_value; block_after_2 = λ z. absurd (refusal-some _ z) }
-
-pub catch_up_if-requires : goal.catch_up_if-requires
-catch_up_if-requires c =
-    let b = c.args.block.now in
-    let tick = c.args.tick.0 in
-    let v = (caught_up (dec_block b) tick).objects.overflow or out_of_handles? (dec_block b) in
-    let f = ap (λ (f : Bool). found_of f v) (sym c.no_room.ensures) ∙ room-none _ v tt _ (sym c.found_before.ensures ∙ c.in_ok-found_before.was) in
-    record { block_value = c.requires.block_value; fires_value = c.timer_due-fires.ensures; tick_value = caught-fits b c.args.h.0 tick f }
 
 pub returns : goal.returns
 returns c =

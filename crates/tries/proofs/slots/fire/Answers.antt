@@ -8,7 +8,7 @@ use Rattle.rows.specs.Sizes.{size-slots}
 use Rattle.rows.specs.Slots.{before, slots-none, slot-before, slots_next, slots-more}
 use Rattle.signal.proofs.Timers.{fired-same, over_none}
 use Rattle.pass.specs.Timers.{fired_slot, over_of}
-use Rattle.tries.proofs.Fired.{over_hit, over_miss, over-end, fired-all}
+use Rattle.tries.proofs.Fired.{over_miss, over-end, fired-all}
 use Rattle.tries.proofs.slots.fire.Goals as goal
 use Rattle.tries.proofs.slots.fire.Goals.{then-slot_due+else-slot_over, else-slot_due}
 
@@ -17,13 +17,6 @@ loop-i-init c = record {
   slots = slots-none c.args.block.now (λ _. fired_slot c.args.tick.0) c.told-block (holds c.args.block.now c.requires.block_value);
   none_over = refl;
 }
-
-pub returns-then-slot_over-clause-value : goal.returns-then-slot_over-clause-value
-returns-then-slot_over-clause-value c =
-    let l = c.loop-i in
-    let s = c.args.block.now in
-    let old = c.slot_at-old.ensures ∙ slot-before s l.i l.block c.loop-i-test.true l.invariant.slots.rows in
-    rw (over_hit c.args.tick.0 (before s) l.i l.invariant.none_over (omega (arith, size-slots s)) (ap (λ (x : Slot). over_of x.object c.args.tick.0) (sym old) ∙ sym c.slot_over.ensures ∙ c.if-slot_over.true))
 
 pub loop-i-preserved : goal.loop-i-preserved
 loop-i-preserved c =

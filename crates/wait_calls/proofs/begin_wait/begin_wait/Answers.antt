@@ -9,11 +9,10 @@ use Rattle.types.specs.declared.thread.Thread.{Thread}
 use Rattle.block.specs.Block.{enc_block, dec_block}
 use Rattle.thread.specs.Thread.{with_result}
 use Rattle.pass.specs.Waits.{wake_tick, waiting}
-use Rattle.sound.specs.View.{ids}
+use Rattle.sound.specs.View.{ids, first_ids}
 use Rattle.object.specs.Store.{add_refs}
 use Rattle.svc.specs.Call.{with_objects}
 use Rattle.rows.specs.Holds.{Holds, put-thread}
-use Rattle.wait_calls.proofs.Words.{first_ids}
 use Rattle.rows.specs.Sizes.{size-threads}
 use Rattle.rows.specs.Current.{current-place}
 use Rattle.wait_calls.proofs.Begins.{begun-once}

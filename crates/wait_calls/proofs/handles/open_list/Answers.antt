@@ -15,9 +15,6 @@ use Rattle.wait_calls.proofs.handles.open_list.Goals as goal
 pub loop-i-init : goal.loop-i-init
 loop-i-init c = open_none c.args.block.now c.requires.block_value _
 
-pub resolve-requires : goal.resolve-requires
-resolve-requires c = record { block_value = c.loop-i.invariant.sound }
-
 pub returns-then-o-eq0 : goal.returns-then-o-eq0
 returns-then-o-eq0 c =
     let l = c.loop-i in

@@ -3,15 +3,12 @@ use mathlib.Core.List.{List}
 use Prim.Native.Nat.{ℕ}
 use lib.ListN.{take}
 use Rattle.std.proofs.lemmas.Result.{err_from_is_err_and}
-use Rattle.std.specs.Prelude.{Ok}
-use Rattle.types.specs.Refusal.{unless_found, unless-ok, refusal-some}
-use Rattle.block.specs.Block.{enc_block, dec_block}
-use Rattle.sound.specs.View.{ids}
+use Rattle.types.specs.Refusal.{unless_found, refusal-some}
+use Rattle.block.specs.Block.{dec_block}
+use Rattle.sound.specs.View.{ids, first_ids}
 use Rattle.pass.specs.Signal.{acquires}
 use Rattle.svc.specs.Call.{gives, with_objects}
 use Rattle.lent.specs.Operations.{finding}
-use Rattle.outcome.specs.Outcome.{outcome-0, left-0}
-use Rattle.wait_calls.proofs.Words.{first_ids}
 use Rattle.wait_calls.proofs.Ways.{refuses, found-by}
 use Rattle.wait_calls.proofs.many.take_all.Goals as goal
 
@@ -26,17 +23,3 @@ returns-in_err-take_list c =
     let f = found-by v _ (sym q ∙ c.in_err-take_list.was) in
     let p = err_from_is_err_and c.from_residual.result c.from_residual.ensures.1 in
     rw (p.1, p.2) record { value = (refuses b _ v f).0; block_after = λ z. absurd (refusal-some _ (sym f ∙ z)) }
-
-pub returns : goal.returns
-returns c =
-    let a = c.args in
-    let b = a.block.now in
-    let k = dec_block b in
-    let os = ap ids c.first.ensures.value ∙ first_ids a.w.list a.w.count in
-    let v = gives (with_objects k (acquires k.objects (take a.w.count (ids a.w.list)) a.w.thread)) a.i in
-    let q = c.take_list.ensures.value ∙ ap (λ (l : List ℕ). unless_found (finding (with_objects k (acquires k.objects l a.w.thread))) tt) os in
-    let f = unless-ok _ tt _ (sym q ∙ c.in_ok-take_list.was) in
-    record {
-      value = ap Ok c.gives.ensures ∙ sym (outcome-0 v f);
-      block_after = λ z. c.take_list.ensures.block_after c.in_ok-take_list.was ∙ ap (λ (l : List ℕ). enc_block (with_objects k (acquires k.objects l a.w.thread))) os ∙ sym (left-0 v b f);
-    }

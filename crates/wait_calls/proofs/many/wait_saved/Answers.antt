@@ -1,4 +1,4 @@
-use lib.ListN.{take, replicate}
+use lib.ListN.{take}
 use mathlib.Core.Path.{sym, ap, ◌∙◌}
 use mathlib.Core.Logic.{inr}
 use Rattle.std.specs.Prelude.{Result, is_err}
@@ -8,8 +8,6 @@ use Rattle.svc.specs.Waits.{wait_synchronization_n}
 use Rattle.outcome.specs.declared.Outcome.{Outcome}
 use Rattle.outcome.specs.Outcome.{left-found}
 use Rattle.wait_calls.proofs.Ways.{refused-some, refused-none}
-use Rattle.wait_calls.proofs.Whole.{copied}
-use borrow.Author.Rules.{rules}
 use Rattle.wait_calls.proofs.many.wait_saved.Goals as goal
 
 pub returns-then-is_err-clause-block_after : goal.returns-then-is_err-clause-block_after
@@ -18,9 +16,7 @@ returns-then-is_err-clause-block_after c =
     let b = a.block.now in
     let v = wait_synchronization_n (dec_block b) a.r (take a.n a.words) a.tick.0 in
     let f = sym (c.is_err.ensures.value ∙ ap (λ (o : Result Outcome Refusal). is_err o) c.wait_caught-o.ensures.value) ∙ c.if-is_err.true in
-    let kept = copied _ (replicate 16384 0) b c.copy.ensures (search rules) in
-    let back = copied _ c.wait_caught-o.new.block c.copy.new.b c.copy-then-is_err.ensures (search rules) in
-    back ∙ kept ∙ sym (left-found v b (refused-some v f))
+    sym (left-found v b (refused-some v f))
 
 pub returns-else-is_err-clause-block_after : goal.returns-else-is_err-clause-block_after
 returns-else-is_err-clause-block_after c =

@@ -1,4 +1,4 @@
-use Rattle.std.specs.Prelude.{Some, Ok}
+use Rattle.std.specs.Prelude.{Some}
 use mathlib.Core.Path.{refl, ap, sym, ◌∙◌}
 use mathlib.Core.Bool.{false}
 use mathlib.Core.List.{[], ◌∷◌}
@@ -10,8 +10,6 @@ use Rattle.pass.specs.Signal.{is_signaled, acquire}
 use Rattle.pass.specs.Asks.{padded}
 use Rattle.svc.specs.Call.{done, answers, with_objects}
 use Rattle.std.proofs.lemmas.Result.{err_from_is_err_and}
-use Rattle.types.specs.Refusal.{unless-ok}
-use Rattle.outcome.specs.Outcome.{outcome-0}
 use Rattle.wait_calls.specs.Waits.{wait_on_in}
 use Rattle.wait_calls.proofs.Begins.{begun-none}
 use Rattle.wait_calls.proofs.Ways.{leaves, stays, refuses, found-by}
@@ -20,12 +18,9 @@ use Rattle.wait_calls.proofs.one.wait_one.Goals as goal
 pub returns-in_err-take : goal.returns-in_err-take
 returns-in_err-take c = let sig = sym (c.signaled.ensures ∙ ap (λ (x : Slot). is_signaled (dec_block c.args.block.now).threads x.object c.args.c) c.slot_at-x.ensures) ∙ c.if-signaled.true in rw sig (let k = dec_block c.args.block.now in let v = done (with_objects k (acquire k.objects c.args.o.0 c.args.c)) in let w' = refuses c.args.block.now _ v (found-by v _ (sym c.take.ensures.value ∙ c.in_err-take.was)) in let p = err_from_is_err_and c.from_residual.result c.from_residual.ensures.1 in rw (p.1, p.2) record { value = w'.0; block_after = c.take.ensures.block_after })
 
-pub returns-then-signaled : goal.returns-then-signaled
-returns-then-signaled c = let sig = sym (c.signaled.ensures ∙ ap (λ (x : Slot). is_signaled (dec_block c.args.block.now).threads x.object c.args.c) c.slot_at-x.ensures) ∙ c.if-signaled.true in rw sig record { value = ap Ok c.done.ensures ∙ sym (outcome-0 _ (unless-ok _ tt _ (sym c.take.ensures.value ∙ c.in_ok-take.was))); block_after = c.take.ensures.block_after }
-
 pub returns-then-is_zero : goal.returns-then-is_zero
 returns-then-is_zero c = let sig = sym (c.signaled.ensures ∙ ap (λ (x : Slot). is_signaled (dec_block c.args.block.now).threads x.object c.args.c) c.slot_at-x.ensures) ∙ c.if-signaled.false in
-    let k = dec_block c.args.block.now in rw (sig, sym c.is_zero.ensures ∙ c.if-is_zero.true) (let w' = (stays c.args.block.now c.requires.block_value c.requires.block_value_2 _ (answers 17 k) (answers 17 k) refl refl c.answers.ensures) in record { value = w'.0; block_after = w'.1 })
+    let k = dec_block c.args.block.now in rw (sig, sym c.is_zero.ensures ∙ c.if-is_zero.true) (let w' = (stays c.args.block.now c.requires.block_value c.requires.block_value_2 _ (answers 17 k) (answers 17 k) refl refl c.from.ensures) in record { value = w'.0; block_after = w'.1 })
 
 pub returns : goal.returns
 unfolding padded

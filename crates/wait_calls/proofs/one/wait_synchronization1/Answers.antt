@@ -12,9 +12,6 @@ use Rattle.wait_calls.specs.Named.{wait1_opened}
 use Rattle.wait_calls.proofs.Ways.{moves, refuses, same-handles, plain-is, plain_over, plain-found}
 use Rattle.wait_calls.proofs.one.wait_synchronization1.Goals as goal
 
-pub wait_pseudo-requires : goal.wait_pseudo-requires
-wait_pseudo-requires c = record { block_value = c.requires.block_value; r0_value = sym c.is_pseudo.ensures ∙ c.if-is_pseudo.true }
-
 pub returns-then-over_now : goal.returns-then-over_now
 returns-then-over_now c =
     let a = c.args in

@@ -1,0 +1,2 @@
+-- The laws that the proof of `put_made` cites.
+pub mod Puts

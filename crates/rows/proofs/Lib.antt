@@ -1,0 +1,2 @@
+-- The laws that the proofs of `rows` cite.
+pub mod Laws
