@@ -14,7 +14,7 @@ use types::sync::{Event, Mutex, ResetType, Semaphore, Timer};
 fn positive(n: u32) -> bool
     ensures { result ≡ def.positive n }
 {
-    0 < n && n < 2147483648
+    0 < n.cast_signed()
 }
 
 fn mutex_free(m: Mutex, w: u32) -> bool

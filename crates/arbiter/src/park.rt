@@ -11,7 +11,7 @@ use units::{Nanos, Ticks};
 pub fn is_below(x: u32, y: u32) -> bool
     ensures { result ≡ ltb (biased x) (biased y) }
 {
-    (x as u64 + 2147483648) % 4294967296 < (y as u64 + 2147483648) % 4294967296
+    x.cast_signed() < y.cast_signed()
 }
 
 // A time-out of 0 counts, a negative one waits for good.

@@ -76,7 +76,7 @@ fn mark_woken(p: &mut [u32; 32], t: u32)
 fn more_to_wake(value: u32, n: u32) -> bool
     ensures { result ≡ more value n }
 {
-    2147483648 <= value || n < value
+    value.cast_signed() < 0 || n < value
 }
 
 // The record x stays if it is for another address, or if its thread is parked here and enough are woken; n are so far.

@@ -62,6 +62,8 @@ pub fn collected_syscall(block: &Block) -> Option<WaitSyscall>
     syscall_as(current, block)
 }
 
+// `change` of `threads` does this to any number of a thread, with a closure: here it is one change, whose contract is an
+// equation.
 fn clear_at(block: &mut Block, c: u32)
     ensures { block.new ≡ thread_put block.old c (with_result (thread_at (dec_block block.old).threads c) None None) }
 {

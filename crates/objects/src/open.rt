@@ -105,7 +105,8 @@ fn open_current(block: &mut Block, current: Option<u32>) -> Result<ObjectId, Ref
     }
 }
 
-// The object, 0 if there is none. If it is refused the block stays as it is.
+// The object, 0 if there is none. If it is refused the block stays as it is. The two pseudo-handles are numbers of the
+// guest's interface, here and below.
 pub fn resolve(block: &mut Block, h: Handle) -> Result<ObjectId, Refusal>
     requires block_value { sound? block.old ≡ true }
     ensures opens { Opens (dec_block block.old) (resolved (dec_block block.old) h.0) block.old block.new result }

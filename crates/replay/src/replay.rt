@@ -40,10 +40,7 @@ fn agrees(line: &Line, lent: &mut Lent) -> bool {
     } else {
         replies::operate(line, lent)
     };
-    match answer {
-        Some(a) => a.number == line.words[1] && lent.hash(a.hash) == line.words[2],
-        None => false,
-    }
+    answer.is_some_and(|a| a.number == line.words[1] && lent.hash(a.hash) == line.words[2])
 }
 
 pub fn replay(text: &[u8]) -> Tally {

@@ -42,7 +42,7 @@ impl Nanos {
     pub fn is_negative(self) -> bool
         ensures { result ≡ ltb 9223372036854775807 self.0 }
     {
-        (i64::MAX as u64) < self.0
+        self.0.cast_signed() < 0
     }
 }
 

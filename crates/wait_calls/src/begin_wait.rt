@@ -27,7 +27,7 @@ pub struct WaitFor {
     pub timeout: Nanos,
 }
 
-// A negative time waits for good.
+// A negative time waits for good. `park_time` of `arbiter` asks first whether its kind has a time-out at all.
 fn wait_time(nanos: Nanos) -> Option<Ticks>
     ensures { result ≡ def.wait_time nanos.0 }
 {

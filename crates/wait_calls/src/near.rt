@@ -20,7 +20,7 @@ fn near(x: KObject) -> bool
 {
     match x {
         KObject::Mutex(m) => NEAR <= m.lock_count,
-        KObject::Semaphore(s) => 2147483648 <= s.count,
+        KObject::Semaphore(s) => s.count.cast_signed() < 0,
         _ => false,
     }
 }
