@@ -13,7 +13,7 @@ use lib.Seq.{drop-cons, set_out, set-get_or}
 use borrow.Author.Tests.{eq-eqb, ne_eqb}
 use Rattle.std.proofs.lemmas.Grind.{common_steps}
 use Rattle.laws.specs.Logic.{pick, pick_yes, pick_no, ◌and◌, ◌or◌, and-false, and_no, and_yes, or_no, or_yes}
-use Rattle.laws.specs.Count.{at}
+use Rattle.laws.specs.Count.{at, put}
 use Rattle.laws.specs.Walk.{walk, walk-nil, walk-out, walk-go}
 use Rattle.units.specs.declared.ObjectId.{ObjectId}
 use Rattle.types.specs.declared.object.Slot.{Slot}
@@ -115,6 +115,11 @@ waiter_at-out l zero e w = refl
 waiter_at-out l (suc n) e (inl z) = absurd (omega arith)
 waiter_at-out l (suc n) e (inr w) = sym (get_or-eq_default l no_waiter (omega (arith, w.1)))
 
+pub waiter_at-far : (l : List Waiter) (n : ℕ) → length l < n → no_waiter ≡ waiter_at l n
+unfolding waiter_at
+waiter_at-far l zero h = refl
+waiter_at-far l (suc n) h = sym (get_or-eq_default l no_waiter (omega arith))
+
 pub waiter_at-pos : (l : List Waiter) (n : ℕ) → n ≢ 0 → get_or l (n - 1) no_waiter ≡ waiter_at l n
 unfolding waiter_at
 waiter_at-pos l zero p = absurd (p refl)
@@ -125,6 +130,11 @@ unfolding waiter_put
 waiter_put-out l zero v e w = refl
 waiter_put-out l (suc n) v e (inl z) = absurd (omega arith)
 waiter_put-out l (suc n) v e (inr w) = sym (set_out l n v (omega (arith, w.1)))
+
+pub waiter_put-far : (l : List Waiter) (n : ℕ) (v : Waiter) → length l < n → l ≡ waiter_put l n v
+unfolding waiter_put
+waiter_put-far l zero v h = refl
+waiter_put-far l (suc n) v h = sym (set_out l n v (omega arith))
 
 pub waiter_put-pos : (l : List Waiter) (n : ℕ) (v : Waiter) → n ≢ 0 → set l (n - 1) v ≡ waiter_put l n v
 unfolding waiter_put
@@ -144,6 +154,21 @@ at-thread l r = at-waiters (λ (w : Waiter). w.thread) l r refl
 
 pub at-address : (l : List Waiter) (r : ℕ) → at (waiter_addresses l) r ≡ (waiter_at l r).address
 at-address l r = at-waiters (λ (w : Waiter). w.address) l r refl
+
+-- a cell of a column of numbers is written
+pub put-none : (l : List ℕ) (x v : ℕ) → x ≡ 0 → l ≡ put l x v
+unfolding put
+put-none l x v e = rw e
+
+pub put-pos : (l : List ℕ) (x v : ℕ) → x ≢ 0 → set l (x - 1) v ≡ put l x v
+unfolding put
+put-pos l zero v p = absurd (p refl)
+put-pos l (suc i) v p = let e : suc i - 1 ≡ i = omega arith in rw e
+
+pub put-far : (l : List ℕ) (x v : ℕ) → length l < x → l ≡ put l x v
+unfolding put
+put-far l zero v h = refl
+put-far l (suc i) v h = sym (set_out l i v (omega arith))
 
 -- ---- the walk of a chain, by the code's cases
 pub walk-over : (nx : List ℕ) (left h : ℕ) → (h ≡ 0) ⊎ ((h ≢ 0) × (left ≡ 0)) → walk nx left h ≡ []
@@ -271,3 +296,5 @@ pub ruleset steps = (
   last_more,
   last-zero,
 )
+
+pub ruleset cells = (common_steps, put-none, put-pos, put-far)

@@ -3,6 +3,7 @@
 // step of a walk, so that none copies it.
 ghost use Rattle.std.specs.Prelude.{◌≡◌, ◌∷◌, ◌+◌, ◌-◌, ◌<◌, ◌≤◌, eqb, None, Some};
 ghost use Rattle.laws.specs.Logic.{pick};
+ghost use Rattle.laws.specs.Count as cells;
 ghost use Rattle.laws.specs.Walk.{walk};
 ghost use Rattle.sound.specs.View.{waiter_nexts, waiter_threads, waiter_addresses};
 ghost use Rattle.sound.specs.Records as chains;
@@ -46,6 +47,16 @@ fn put_waiter(ws: &mut [Waiter; 64], x: u32, w: Waiter)
         return;
     }
     ws[(x - 1) as usize] = w;
+}
+
+// v goes into the cell numbered x, from 1; nothing changes where there is no such cell.
+#[tactic(auto, using(crate::proofs::Laws::cells))]
+pub fn put_cell(l: &mut [u32; 64], x: u32, v: u32)
+    ensures { l.new ≡ cells.put l.old x v }
+{
+    if 0 < x && x <= 64 {
+        l[(x - 1) as usize] = v;
+    }
 }
 
 // The record x goes in front of what is kept, or of the free chain.

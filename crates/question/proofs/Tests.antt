@@ -138,7 +138,7 @@ pub marked-is : (s : List ℕ) (t k : ℕ) → marked s t k ≡ pick (fresh? s t
 unfolding marked
 marked-is s t k = refl
 
-pub live-asks : (d : List Bool) (t : ℕ) → live? d t ≡ not (get_or d t true)
+pub live-asks : (d : List ℕ) (t : ℕ) → live? d t ≡ eqb (get_or d t 1) 0
 unfolding live?
 live-asks d t = refl
 

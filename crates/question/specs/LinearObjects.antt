@@ -1,13 +1,14 @@
 -- The tests of objects and records as they are computed, over columns that one pass makes.
-use Rattle.std.specs.Prelude.{Bool, true, not, List, [], ◌∷◌, map, ℕ, eqb, leb, ltb, get_or, replicate, Option, Some}
+use Rattle.std.specs.Prelude.{Bool, true, List, [], ◌∷◌, map, ℕ, eqb, leb, ltb, get_or, replicate, Option, Some}
 use Rattle.std.specs.Prelude.{None}
 use Rattle.laws.specs.Logic.{◌and◌, ◌or◌}
-use Rattle.laws.specs.Count.{at}
+use Rattle.laws.specs.Count.{one?, at}
 use Rattle.laws.specs.Numbers.{all_to, all_below}
 use Rattle.laws.specs.Walk.{walk, ends?}
 use Rattle.laws.specs.Tally.{bump, tally, tally_all}
 use Rattle.units.specs.declared.ObjectId.{ObjectId}
 use Rattle.tally.specs.Place.{slot_index}
+use Rattle.types.specs.declared.thread.ThreadStatus.{ThreadStatus}
 use Rattle.types.specs.declared.thread.Thread as th
 use Rattle.types.specs.declared.object.KObject.{KObject}
 use Rattle.types.specs.declared.object.KObject.TheVariants.{Free, Thread, Event, Mutex, Semaphore, Timer, AddressArbiter, Process, ResourceLimit}
@@ -69,18 +70,21 @@ unfoldable pub objects_by? : List ℕ → List ℕ → List ℕ → List ℕ →
 objects_by? ks rs ns us free c k p =
     (up_to128 k and leb p 128) and ((ends? ns 128 free and slots? ks rs c (marks_of ns free) 128) and kept_by? ks us k p)
 
--- ---- contents: which threads are Dead; a number past them is no live thread
-abbrev pub dead_marks : List th.Thread → List Bool
-dead_marks l = map (λ (t : th.Thread). is_dead t.status) l
+-- ---- contents: 1 for a thread that is Dead or is none
+abbrev pub dead_mark : ThreadStatus → ℕ
+dead_mark s = one? (is_dead s)
 
-unfoldable pub live? : List Bool → ℕ → Bool
-live? d t = not (get_or d t true)
+abbrev pub dead_marks : List th.Thread → List ℕ
+dead_marks l = map (λ (t : th.Thread). dead_mark t.status) l
 
-abbrev pub owner_by? : List Bool → Option ℕ → Bool
+unfoldable pub live? : List ℕ → ℕ → Bool
+live? d t = eqb (get_or d t 1) 0
+
+abbrev pub owner_by? : List ℕ → Option ℕ → Bool
 owner_by? d None = true
 owner_by? d (Some t) = live? d t
 
-abbrev pub content_by? : ℕ → List Bool → KObject → Bool
+abbrev pub content_by? : ℕ → List ℕ → KObject → Bool
 content_by? n d (Free x) = true
 content_by? n d (Thread t) = ltb t n
 content_by? n d (Event e) = true
@@ -91,7 +95,7 @@ content_by? n d (AddressArbiter a) = true
 content_by? n d Process = true
 content_by? n d ResourceLimit = true
 
-unfoldable pub contents_by? : ℕ → List Bool → List Slot → ℕ → Bool
+unfoldable pub contents_by? : ℕ → List ℕ → List Slot → ℕ → Bool
 contents_by? n d l k = all_to k (λ o. content_by? n d (slot_at l o).object)
 
 -- ---- records: chains of at most 64

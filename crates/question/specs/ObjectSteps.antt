@@ -79,11 +79,11 @@ pub slots-next : (ks rs c m : List ℕ) (i : ℕ)
 unfolding slots? all_to at
 slots-next ks rs c m i = rw add-one
 
-pub contents-start : (n : ℕ) (d : List Bool) (l : List Slot) → true ≡ contents_by? n d l 0
+pub contents-start : (n : ℕ) (d : List ℕ) (l : List Slot) → true ≡ contents_by? n d l 0
 unfolding contents_by?
 contents-start n d l = sym (all_to-end _ 0 (omega arith))
 
-pub contents-next : (n : ℕ) (d : List Bool) (l : List Slot) (i : ℕ)
+pub contents-next : (n : ℕ) (d : List ℕ) (l : List Slot) (i : ℕ)
     → contents_by? n d l (i + 1) ≡ content_by? n d (get_or l i no_slot).object and contents_by? n d l i
 unfolding contents_by? all_to slot_at
 contents-next n d l i = rw add-one

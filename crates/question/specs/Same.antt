@@ -11,7 +11,7 @@ use Rattle.std.proofs.Math.ListN.{length, get_or, replicate, length-map, get_or-
 use borrow.Author.Tests.{ne_eqb, le-leb, lt-leb, le-ltb}
 use Rattle.laws.specs.Logic.{◌and◌, ◌or◌, and_assoc, lt-cases}
 use Rattle.laws.specs.All.{All}
-use Rattle.laws.specs.Count.{count, count_all, ind, ind-other}
+use Rattle.laws.specs.Count.{one?, count, count_all, ind, ind-other}
 use Rattle.laws.specs.Numbers.{all_to-same}
 use Rattle.laws.specs.Walk.{walk, ends?, walk-length}
 use Rattle.laws.specs.Tally.{tally, tally_all, bump_get, length-tally, tally_get, tally-le, length-tally_all, tally_all_get, tally_all-le, zero_get, zero-le}
@@ -39,7 +39,7 @@ use Rattle.tally.specs.Lists.{Listed, name_of, handle_names, list_names}
 use Rattle.question.specs.Linear.{slot?, slots?}
 use Rattle.tally.specs.Place.{slot_index}
 use Rattle.question.specs.LinearObjects.{named_of, named, counts_of, marks_of, kept_thread?, kept_process?, indexed}
-use Rattle.question.specs.LinearObjects.{kept_threads?, kept_by?, objects_by?, dead_marks, live?, owner_by?}
+use Rattle.question.specs.LinearObjects.{kept_threads?, kept_by?, objects_by?, dead_mark, dead_marks, live?, owner_by?}
 use Rattle.question.specs.LinearObjects.{content_by?, contents_by?, end_all?, walk_all, once_all?, shared_out?}
 use Rattle.question.specs.LinearObjects.{chains_by?, fine_pool?, records_by?, tables?, store?}
 
@@ -193,9 +193,15 @@ unfolding objects_by? kept_in?
 objects-same s t ts ns ne nt a nk = rw (held_same s t ts ns ne nt a nk, kept_same s ns) (and_assoc (kept_in? s) (held? s (names t ts)) (kept? s))
 
 -- ---- contents
+not_mark : (b : Bool) → eqb (one? b) 0 ≡ not b
+not_mark true = refl
+not_mark false = refl
+
 live_same : (ts : List th.Thread) (t : ℕ) → live? (dead_marks ts) t ≡ not (is_dead (thread_at ts t).status)
 unfolding live?
-live_same ts t = ap not (get_or-map (λ (x : th.Thread). is_dead x.status) ts t no_thread)
+live_same ts t =
+    ap (λ (k : ℕ). eqb k 0) (get_or-map (λ (x : th.Thread). dead_mark x.status) ts t no_thread)
+    ∙ not_mark (is_dead (thread_at ts t).status)
 
 owner-same : (ts : List th.Thread) (w : Option ℕ) → owner_by? (dead_marks ts) w ≡ owner? ts w
 owner-same ts None = refl

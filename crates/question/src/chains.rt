@@ -1,6 +1,6 @@
 // Chain walks, by recursion with a falling allowance, so that a damaged chain ends too. What is walked over is handed
 // on by reference, in registers, so that a walk is compiled to a loop.
-ghost use Rattle.std.specs.Prelude.{◌≡◌, ◌≢◌, Bool, true, false, List, ℕ, Some, None};
+ghost use Rattle.std.specs.Prelude.{◌≡◌, ◌≢◌, ◌≤◌, Bool, true, false, List, ℕ, Some, None, take};
 ghost use Rattle.laws.specs.Logic.{◌and◌};
 ghost use Rattle.laws.specs.Walk.{walk, ends?};
 ghost use Rattle.laws.specs.Tally.{tally};
@@ -19,11 +19,18 @@ pub struct Records {
     pub addresses: [u32; 64],
 }
 
-// Whether the chain from at ends within left cells, and one more in m for each cell that it has.
+// Whether the chain from at ends within left cells of the first n, and one more in m for each cell that it has.
 #[tactic(auto, using(crate::proofs::Tests::walks))]
-pub fn mark_chain<const N: usize>(nexts: &[u32; N], m: &mut [u32; 129], at: u32, left: u32) -> bool
-    ensures value { result ≡ ends? nexts.now left at }
-    ensures m_after { m.new ≡ tally 129 m.old (walk nexts.now left at) }
+pub fn mark_chain<const N: usize>(
+    nexts: &[u32; N],
+    n: usize,
+    m: &mut [u32; 129],
+    at: u32,
+    left: u32,
+) -> bool
+    requires { n ≤ N }
+    ensures value { result ≡ ends? (take n nexts.now) left at }
+    ensures m_after { m.new ≡ tally 129 m.old (walk (take n nexts.now) left at) }
 {
     if at == 0 {
         return true;
@@ -32,10 +39,10 @@ pub fn mark_chain<const N: usize>(nexts: &[u32; N], m: &mut [u32; 129], at: u32,
         return false;
     }
     tally::bump_at(m, at);
-    if N < at as usize {
+    if n < at as usize {
         return false;
     }
-    mark_chain(nexts, m, cell(nexts, at), left - 1)
+    mark_chain(nexts, n, m, cell(nexts, at), left - 1)
 }
 
 // Whether thread t has not this mark yet, and the mark if so.

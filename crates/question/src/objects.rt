@@ -8,13 +8,14 @@ ghost use Rattle.sound.specs.View.{kinds, refs, nexts, heads, ids};
 ghost use Rattle.sound.specs.Objects.{up_to128};
 ghost use Rattle.question.specs.Linear.{slot?, slots?};
 ghost use Rattle.question.specs.LinearObjects.{named_of, named, kept_thread?, kept_process?, kept_threads?, kept_by?};
-ghost use Rattle.question.specs.LinearObjects.{objects_by?, dead_marks, live?, owner_by?, content_by?, contents_by?};
+ghost use Rattle.question.specs.LinearObjects.{objects_by?, dead_mark, dead_marks, live?, owner_by?, content_by?};
+ghost use Rattle.question.specs.LinearObjects.{contents_by?};
 
 use crate::chains;
 use block::Block;
 use tally::place::slot_index;
 use types::object::{KObject, head_of, kind_number, next_of};
-use types::thread::is_dead;
+use types::thread::{ThreadStatus, is_dead};
 use units::ObjectId;
 
 // The columns of the slots.
@@ -84,7 +85,7 @@ fn held_ok(s: &Columns, free: u32, c: &[u32; 129]) -> bool
         and slots? s.now.kinds s.now.refs c.now (tally 129 (replicate 129 0) (walk s.now.nexts 128 free)) 128) }
 {
     let mut m = [0u32; 129];
-    chains::mark_chain(&s.nexts, &mut m, free, 128) && slots_ok(s, c, &m)
+    chains::mark_chain(&s.nexts, 128, &mut m, free, 128) && slots_ok(s, c, &m)
 }
 
 // The object kept for thread t, and the kind and the thread of what stands at its index.
@@ -121,31 +122,39 @@ fn kept_ok(s: &Columns, b: &Block, process: ObjectId) -> bool
     kept_threads_ok(s, b) && kept_process(process, s.kinds[slot_index(process)])
 }
 
-// Which threads are Dead.
-pub fn dead_marks(b: &Block) -> [bool; 32]
+// 1 for a thread that is Dead.
+fn dead_mark(s: ThreadStatus) -> u32
+    ensures { result ≡ dead_mark s }
+{
+    u32::from(is_dead(s))
+}
+
+// 1 for each thread that is Dead.
+pub fn dead_marks(b: &Block) -> [u32; 32]
     ensures { result ≡ dead_marks (threads_in b.now) }
 {
-    let mut r = [false; 32];
+    let mut r = [0u32; 32];
     for i in 0..32 {
-        r[i] = is_dead(block::record::thread_at(b, i).status);
+        r[i] = dead_mark(block::record::thread_at(b, i).status);
     }
     r
 }
 
+// Whether the mark of thread t is 0; a number past the marks is no live thread.
 #[tactic(auto, using(crate::proofs::Tests::marks))]
-fn live(d: &[bool; 32], t: u32) -> bool
+fn live(d: &[u32], t: u32) -> bool
     ensures { result ≡ live? d.now t }
 {
-    t < 32 && !d[t as usize]
+    d.get(t as usize).is_some_and(|mark| *mark == 0)
 }
 
-fn owner_ok(d: &[bool; 32], w: Option<u32>) -> bool
+fn owner_ok(d: &[u32], w: Option<u32>) -> bool
     ensures { result ≡ owner_by? d.now w }
 {
     w.is_none_or(|t| live(d, t))
 }
 
-fn content_ok(n: u32, d: &[bool; 32], o: KObject) -> bool
+fn content_ok(n: u32, d: &[u32], o: KObject) -> bool
     ensures { result ≡ content_by? n d.now o }
 {
     match o {
@@ -157,7 +166,7 @@ fn content_ok(n: u32, d: &[bool; 32], o: KObject) -> bool
 
 // The columns of the slots in one pass. Whether the threads that objects name exist, and owners are not Dead, by the
 // marks d.
-pub fn read_columns(b: &Block, n: u32, d: &[bool; 32], s: &mut Columns) -> bool
+pub fn read_columns(b: &Block, n: u32, d: &[u32], s: &mut Columns) -> bool
     ensures value { result ≡ contents_by? n d.now (slots_in b.now) 128 }
     ensures kinds_after { s.new.kinds ≡ kinds (slots_in b.now) }
     ensures refs_after { s.new.refs ≡ refs (slots_in b.now) }

@@ -60,7 +60,7 @@ fn once_ok(m: &[u32; 129]) -> bool
 fn rest_free(nexts: &[u32; 64], m: &mut [u32; 129], free: u32) -> bool
     ensures { result ≡ (ends? nexts.now 64 free and once_all? (tally 129 m.old (walk nexts.now 64 free)) 64) }
 {
-    chains::mark_chain(nexts, m, free, 64) && once_ok(m)
+    chains::mark_chain(nexts, 64, m, free, 64) && once_ok(m)
 }
 
 // Whether the chains and the free one end and have each record once, and each chain names threads below n and no pair

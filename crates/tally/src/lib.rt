@@ -2,6 +2,7 @@
 #![tactic(auto, using(crate::proofs::Tests::steps))]
 
 pub mod chain;
+pub mod columns;
 pub mod place;
 
 ghost use Rattle.std.specs.Prelude.{◌≡◌, ◌+◌, length};

@@ -1,0 +1,7 @@
+use mathlib.Core.Path.{◌≡◌}
+use lib.ListN.{length, take}
+use Rattle.sound.specs.View.{waiter_addresses}
+use Rattle.tally.proofs.columns.addresses_of.Given as goal
+
+abbrev pub invariant-loop-i : goal.invariant-loop-i
+invariant-loop-i l = record { made : length l.r ≡ 64; column : take l.i l.r ≡ waiter_addresses (take l.i l.l) }
