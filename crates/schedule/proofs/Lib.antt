@@ -1,2 +1,3 @@
 -- The laws that the proofs of `schedule` cite.
+pub mod Halves
 pub mod Passes

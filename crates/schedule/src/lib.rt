@@ -1,9 +1,9 @@
 // The operation that makes a pass.
 #![tactic(auto)]
 
-ghost use Rattle.std.specs.Prelude.{◌≡◌, true, [], Some, Ok, Err};
+ghost use Rattle.std.specs.Prelude.{◌≡◌, ◌+◌, ◌≤◌, true, [], Some, Ok, Err, length};
 ghost use Rattle.laws.specs.Logic.{pick};
-ghost use Rattle.codec.specs.Bytes.{bytes};
+ghost use Rattle.codec.specs.Bytes.{bytes, over};
 ghost use Rattle.block.specs.Block.{dec_block};
 ghost use Rattle.sound.specs.Question.{sound?};
 ghost use Rattle.pass.specs.Schedule as pass;
@@ -21,11 +21,25 @@ use scheduler::choose;
 use types::refusal::{self, Refusal};
 use units::Ticks;
 
+// Half the bytes of a context.
+const HALF: usize = 104;
+
+// A context over what stands from at, in two parts: each is short enough to be copied in place, where the whole is
+// copied by a call of memmove, which the library needs for nothing else.
+fn copy_context(b: &mut [u8], at: usize, context: &[u8])
+    requires context_len { length context.now ≡ 208 }
+    requires room { at + 208 ≤ length b.old }
+    ensures { b.new ≡ over b.old at context.now }
+{
+    codec::copy(b, at, &context[..HALF]);
+    codec::copy(b, at + HALF, &context[HALF..]);
+}
+
 fn save_at(bank: &mut Bank, t: u32, context: &Processor)
     ensures { bank.new ≡ def.save_row bank.old (Some t) context.now }
 {
     if t < 32 {
-        codec::copy(bank, t as usize * 208, context);
+        copy_context(bank, t as usize * 208, context);
     }
 }
 
@@ -43,7 +57,7 @@ fn restore_at(context: &mut Processor, t: u32, bank: &Bank)
 {
     if t < 32 {
         let from = t as usize * 208;
-        codec::copy(context, 0, &bank[from..from + 208]);
+        copy_context(context, 0, &bank[from..from + 208]);
     }
 }
 
