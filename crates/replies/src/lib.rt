@@ -43,7 +43,7 @@ fn create(words: &[u32; 16], lent: &mut Lent) -> Answer {
     Answer::new(number, &answer)
 }
 
-fn pass(words: &[u32; 16], lent: &mut Lent) -> Answer {
+pub fn pass(words: &[u32; 16], lent: &mut Lent) -> Answer {
     let mut answer = [0xA5u8; 4];
     let at = tick(words[3], words[4]);
     let number = schedule::operate(
@@ -82,7 +82,7 @@ fn quiet(words: &[u32; 16], lent: &Lent) -> Answer {
     Answer::new(number, &answer)
 }
 
-fn collected(lent: &mut Lent) -> Answer {
+pub fn collected(lent: &mut Lent) -> Answer {
     let mut answer = [0xA5u8; 12];
     let number = collect::operate(&mut lent.block, &mut answer);
     Answer::new(number, &answer)

@@ -51,7 +51,7 @@ impl Lent {
 
     // What a line that names no operation does. Gives whether the line is such a one.
     pub fn set(&mut self, line: &Line) -> bool {
-        let words = line.words;
+        let words = &line.words;
         match line.kind {
             // p AREA PLACE WORD: the host, or an operation that the library does not have, changed a word.
             b'p' => match words[1] {
